@@ -1,0 +1,5 @@
+pub mod Fields
+pub mod Layout
+pub mod Whole
+pub mod Volumes
+pub mod FirstForm
