@@ -1,0 +1,5 @@
+pub mod Written
+pub mod Names
+pub mod Grammar
+pub mod Trimmed
+pub mod Pieces

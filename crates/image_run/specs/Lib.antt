@@ -1,0 +1,5 @@
+pub mod Outside
+pub mod Words
+pub mod Images
+pub mod Text
+pub mod Memory

@@ -1,0 +1,13 @@
+//! A command over images: its words, what it does and what it prints.
+#![tactic(auto)]
+
+mod memory;
+mod outside;
+mod report;
+mod text;
+mod words;
+
+pub use memory::{MemFault, MemSink};
+pub use outside::{Shelf, ShelfFault, Sink, write_all};
+pub use report::Report;
+pub use words::{ImageArg, image_of, parse};

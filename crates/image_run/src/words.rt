@@ -1,0 +1,126 @@
+//! The words of a command: what is in the grammar, and the images that they name.
+ghost use Rattle.std.specs.Prelude.{◌≡◌, ◌↔◌, ◌&&◌, nat_le, ℕ, ◌<◌, ◌≤◌, List, length, map, IsTrue, IsSome, IfSome, IfNone};
+ghost use Rattle.std.specs.List.{AllByRecursion, list_all};
+ghost use Rattle.std.specs.Option.{IsSomeAnd};
+ghost use Rattle.image_run.specs.Words.{ImageWord, IsImageWord, IsAssemble, IsCommand, are_distinct, assemble_word, is_apart_from, is_name, is_name_byte, padded_name, spelled, texts};
+ghost use Rattle.image_run.specs.Images.{word_of, words_of};
+
+use arrayvec::ArrayVec;
+use imsm_base::{MAX_DISKS, SERIAL_BYTES, Serial};
+
+/// A word NAME=FILE: the name of a disk, and the file that is its image.
+#[derive(Clone, Copy, Default)]
+pub struct ImageArg<'a> {
+    pub name: &'a str,
+    pub file: &'a str,
+}
+
+fn is_byte_of_name(byte: u8) -> bool
+    ensures { result ≡ is_name_byte byte }
+{
+    byte >= 0x21 && byte <= 0x7e && byte != b'=' && byte != b'\\'
+}
+
+fn are_name_bytes(bytes: &[u8]) -> bool
+    ensures { result ≡ list_all is_name_byte bytes.now }
+{
+    bytes.iter().all(|byte| is_byte_of_name(*byte))
+}
+
+fn is_name_length(length: usize) -> bool
+    ensures { result ≡ (nat_le 1 length && nat_le length SERIAL_BYTES) }
+{
+    1 <= length && length <= SERIAL_BYTES
+}
+
+fn names_disk(name: &str) -> bool
+    ensures { result ≡ is_name name.now }
+{
+    is_name_length(name.len()) && are_name_bytes(name.as_bytes())
+}
+
+/// The parts of a word around its first `=`.
+fn parts(word: &str) -> Option<ImageArg<'_>>
+    ensures split { IfSome result (λ image. word.now ≡ spelled (word_of image)) }
+    ensures only { (w : ImageWord) → IsImageWord w → word.now ≡ spelled w → IsSomeAnd result (λ image. word_of image ≡ w) }
+{
+    let (name, file) = word.split_once('=')?;
+    Some(ImageArg { name, file })
+}
+
+fn names_image(image: &ImageArg<'_>) -> bool
+    ensures { IsTrue result ↔ IsImageWord (word_of image.now) }
+{
+    names_disk(image.name) && !image.file.is_empty()
+}
+
+/// The image that a word names, if it is of the form NAME=FILE.
+pub fn image_of(word: &str) -> Option<ImageArg<'_>>
+    ensures found { IfSome result (λ image. IsImageWord (word_of image) × (word.now ≡ spelled (word_of image))) }
+    ensures none { IfNone result ((w : ImageWord) → IsImageWord w → word.now ≡ spelled w → ⊥) }
+{
+    let image = parts(word)?;
+    if names_image(&image) {
+        Some(image)
+    } else {
+        None
+    }
+}
+
+/// The images that words name, if each word names one.
+fn images_of(words: &[String]) -> Option<ArrayVec<ImageArg<'_>, MAX_DISKS>>
+    requires { length words.now ≤ MAX_DISKS }
+    ensures each { IfSome result (λ images. AllByRecursion IsImageWord (words_of images.items)) }
+    ensures found { IfSome result (λ images. texts words.now ≡ map spelled (words_of images.items)) }
+    ensures none { IfNone result ((ws : List ImageWord) → AllByRecursion IsImageWord ws → texts words.now ≡ map spelled ws → ⊥) }
+{
+    let mut images = ArrayVec::new();
+    for word in words {
+        images.push(image_of(word.as_str())?);
+    }
+    Some(images)
+}
+
+fn is_apart(image: &ImageArg<'_>, other: &ImageArg<'_>) -> bool
+    ensures { result ≡ is_apart_from (word_of image.now) (word_of other.now) }
+{
+    other.name != image.name && other.file != image.file
+}
+
+fn is_apart_from_all(image: &ImageArg<'_>, others: &[ImageArg<'_>]) -> bool
+    ensures { result ≡ list_all (λ other. is_apart_from (word_of image.now) (word_of other)) others.now }
+{
+    others.iter().all(|other| is_apart(image, other))
+}
+
+fn are_apart(images: &[ImageArg<'_>]) -> bool
+    ensures { result ≡ are_distinct (words_of images.now) }
+{
+    match images.split_first() {
+        None => true,
+        Some((image, others)) => is_apart_from_all(image, others) && are_apart(others),
+    }
+}
+
+fn is_assemble(word: &str) -> bool
+    ensures { IsTrue result ↔ (word.now ≡ assemble_word) }
+{
+    word == "assemble"
+}
+
+/// The images of the command `assemble NAME=FILE..`, if the words are in the grammar.
+pub fn parse(words: &[String]) -> Option<ArrayVec<ImageArg<'_>, MAX_DISKS>>
+    ensures found { IfSome result (λ images. IsAssemble (texts words.now) (words_of images.items)) }
+    ensures none { IfNone result (IsCommand (texts words.now) → ⊥) }
+{
+    let (first, rest) = words.split_first()?;
+    if !is_assemble(first.as_str()) || rest.is_empty() || rest.len() > MAX_DISKS {
+        return None;
+    }
+    let images = images_of(rest)?;
+    if are_apart(images.as_slice()) {
+        Some(images)
+    } else {
+        None
+    }
+}
