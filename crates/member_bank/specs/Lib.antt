@@ -1,2 +1,5 @@
 pub mod Told
 pub mod Faults
+pub mod Contents
+pub mod History
+pub mod Memory
