@@ -3,3 +3,4 @@ pub mod Faults
 pub mod Contents
 pub mod History
 pub mod Memory
+pub mod Files

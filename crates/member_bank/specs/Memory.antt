@@ -9,6 +9,7 @@ use Rattle.device_log.specs.Log.{Call, Write}
 use Rattle.member_bank.specs.declared.disks.MemDisk.{MemDisk}
 use Rattle.member_bank.specs.declared.history.LogRoom.{LogRoom}
 use Rattle.member_bank.specs.declared.memory.FailAt.{FailAt}
+use Rattle.member_bank.specs.Faults.{next_count, faults_with}
 use Rattle.member_bank.specs.Contents.{contents_of, sizes_of, laid_on, Shows}
 use Rattle.member_bank.specs.History.{log_with}
 
@@ -45,10 +46,6 @@ with_disk b disk = record b {
   faults = b.faults ++ 0 ∷ [];
 }
 
--- a count of 64 bits rises by one, or stands still at its last value
-abbrev pub next_count : ℕ → ℕ
-next_count n = if n == 2 ^ 64 - 1 then n else n + 1
-
 -- what the first entry for a call says: that it fails, and how many sectors of a write are kept
 abbrev pub kept_at : List FailAt → ℕ → Option ℕ
 kept_at fails call = option_map (λ (f : FailAt). f.kept) (find (λ (f : FailAt). f.call == call) fails)
@@ -62,17 +59,12 @@ abbrev pub stored_of : Option ℕ → ℕ → ℕ
 stored_of None count = count
 stored_of (Some kept) count = min kept count
 
--- a failed call counts for its disk alone
-abbrev pub faults_with : List ℕ → Call → List ℕ
-faults_with faults call =
-    if call.went then faults else slice_set faults call.disk (next_count (slice_index faults call.disk))
-
 -- a bank after a call that changes no contents
 abbrev pub called : MemState → Call → MemState
 called b call = record b {
   calls = next_count b.calls;
   log = log_with b.room b.log call;
-  faults = faults_with b.faults call;
+  faults = faults_with b.faults call.disk call.went;
 }
 
 -- a bank after a write, of which so many sectors were stored as the fail list says

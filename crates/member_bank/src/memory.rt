@@ -1,13 +1,14 @@
 //! A bank in memory, which tells its contents, and its log as far as the room for it goes.
-ghost use Rattle.std.specs.Prelude.{◌≡◌, ◌≢◌, ◌+◌, ◌≤◌, ◌<◌, ℕ, List, [], ◌∷◌, Some, length, map, take, slice_get, slice_set, slice_index, slice_index_or, if◌then◌else◌, is_ok, is_none, All, IfOk, IfSome, OnOk, OnErr};
+ghost use Rattle.std.specs.Prelude.{◌≡◌, ◌≢◌, ◌+◌, ◌≤◌, ◌<◌, ℕ, List, [], ◌∷◌, Some, length, map, take, slice_get, slice_index, slice_index_or, is_ok, is_none, All, IfOk, IfSome, OnOk, OnErr};
 ghost use Rattle.std.specs.List.{AllPairs};
 ghost use Rattle.device_log.specs.Log.{Read, Write, Sync};
 ghost use Rattle.member_bank.specs.Told.{Keeps, Logs, LogsWrite, Gives};
 ghost use Rattle.member_bank.specs.Faults.{HasCause};
 ghost use Rattle.member_bank.specs.Contents.{contents_of, sectors_of, sizes_of, laid_on, Shows};
 ghost use Rattle.member_bank.specs.History.{what_of, count_of};
-ghost use Rattle.member_bank.specs.Memory.{opened, with_disk, called, next_count, kept_at as kept_of, kept_next, stored_of, written};
+ghost use Rattle.member_bank.specs.Memory.{opened, with_disk, called, kept_at as kept_of, kept_next, stored_of, written};
 
+use crate::counts::{answer, next};
 use crate::disks::{Disks, MemDisk};
 use crate::history::{Asked, History, LogRoom, Note};
 use crate::{Bank, Failed};
@@ -95,27 +96,6 @@ fn stored(kept: Option<u8>, count: usize) -> usize
         Some(kept) => (kept as usize).min(count),
         None => count,
     }
-}
-
-/// A count that rises by one, or stands still at its last value.
-fn next(count: u64) -> u64
-    ensures { result ≡ next_count count }
-{
-    count.saturating_add(1)
-}
-
-/// The answer to a call, which counts for its disk where it failed.
-fn answer(faults: &mut [u64], d: DiskNo, went: bool) -> Result<(), Failed>
-    requires { d.0 < length faults.old }
-    ensures answer { is_ok result ≡ went }
-    ensures counts { faults.new ≡ (if went then faults.old else slice_set faults.old d.0 (next_count (slice_index faults.old d.0))) }
-    ensures cause { HasCause (λ k. slice_index faults.old k) (λ k. slice_index faults.new k) d.0 result }
-{
-    if went {
-        return Ok(());
-    }
-    faults[d.0 as usize] = next(faults[d.0 as usize]);
-    Err(Failed)
 }
 
 impl MemBank {
