@@ -1,2 +1,6 @@
 pub mod Told
 pub mod Faults
+pub mod Contents
+pub mod History
+pub mod Memory
+pub mod Files

@@ -9,7 +9,17 @@ ghost use Rattle.device_log.specs.Log.{Call, Read, Sync};
 ghost use Rattle.member_bank.specs.Told.{Keeps, Logs, LogsWrite, Gives};
 ghost use Rattle.member_bank.specs.Faults.{HasCause};
 
+mod counts;
+mod disks;
+mod files;
+mod history;
+mod memory;
+
+pub use disks::MemDisk;
+pub use files::{FileBank, FileBankFault};
+pub use history::LogRoom;
 use imsm_base::{DiskNo, MAX_DISKS, MAX_WRITE_SECTORS, Sector, Serial};
+pub use memory::{BankFault, FailAt, MemBank};
 
 /// A device call that didn't go through.
 #[derive(Clone, Copy, Debug, PartialEq, Eq)]
