@@ -1,5 +1,5 @@
 -- What the outside tells: bytes that were written, and the bank that a shelf holds.
-use Rattle.std.specs.Prelude.{◌≡◌, ◌≢◌, ℕ, ◌≤◌, Bool, true, List, [], ◌∷◌, ◌++◌, length, take, Option, Some, IfSome, ⊤}
+use Rattle.std.specs.Prelude.{◌≡◌, ◌≢◌, ℕ, ◌≤◌, Bool, true, List, [], ◌∷◌, ◌++◌, length, take, All, Option, Some, IfSome, ⊤}
 use Rattle.std.specs.List.{AllByRecursion}
 use Rattle.std.specs.Option.{IsSomeAnd}
 use Rattle.imsm_base.specs.declared.units.Sector.{Sector}
@@ -29,7 +29,7 @@ OnlyReads log = AllByRecursion (λ c. IsRead c.what) log
 
 -- no disk has this serial
 abbrev pub IsNew : Serial → List Serial → Type 0
-IsNew serial serials = AllByRecursion (λ (s : Serial). s ≢ serial) serials
+IsNew serial serials = All (λ s. s ≢ serial) serials
 
 -- The bank has one disk more, at the end, with this serial. Opening a disk logs nothing.
 pub record HasOneMore {B : Type 0} (serials : B → List Serial) (opening : B → Option (List (List Sector))) (log : B → Option (List Call)) (serial : Serial) (old new : B) : Type 0 where

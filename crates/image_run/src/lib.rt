@@ -4,10 +4,12 @@
 mod memory;
 mod outside;
 mod report;
+mod shelf;
 mod text;
 mod words;
 
 pub use memory::{MemFault, MemSink};
 pub use outside::{Shelf, ShelfFault, Sink, write_all};
 pub use report::Report;
+pub use shelf::{MemFile, MemShelf};
 pub use words::{ImageArg, image_of, parse};
