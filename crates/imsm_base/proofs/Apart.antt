@@ -145,3 +145,12 @@ parts_apart bytes room =
 
 pub spells_apart : (bytes : List ℕ) → room_of (block_in bytes) ≤ length bytes → Spells bytes (block_in bytes)
 spells_apart bytes room = record { parts = parts_apart bytes room; laid = laid_apart bytes }
+
+-- there are as many records and volumes as the header says
+pub length-disks : (bytes : List ℕ) → length (block_in bytes).disks ≡ number_at 1 56 bytes
+unfolding block_in
+length-disks bytes = length-disks_in (number_at 1 56 bytes) (drop 216 bytes)
+
+pub length-volumes : (bytes : List ℕ) → length (block_in bytes).volumes ≡ number_at 1 57 bytes
+unfolding block_in
+length-volumes bytes = length-volumes_in (number_at 1 57 bytes) (behind_disks bytes)
