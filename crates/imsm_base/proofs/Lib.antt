@@ -1,0 +1,4 @@
+pub mod Cut
+pub mod Joined
+pub mod Apart
+pub mod At

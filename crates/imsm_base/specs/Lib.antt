@@ -3,3 +3,4 @@ pub mod Layout
 pub mod Whole
 pub mod Volumes
 pub mod FirstForm
+pub mod Parts

@@ -61,6 +61,10 @@ pub record IsWholeBlock (bytes : List ℕ) (b : Block) : Type 0 where
   pub spells : Spells bytes b
   pub tail : IsAcceptedTail b.tail
 
+-- bytes are a whole block
+abbrev pub IsWhole : List ℕ → Type 0
+IsWhole bytes = (b : Block) × IsWholeBlock bytes b
+
 -- The block that stands at the end of a disk of n sectors: its first sector, the anchor, is the second to last, and
 -- its other sectors stand in order just before the anchor. `at` gives the sector at each place.
 abbrev pub anchor_place : ℕ → ℕ

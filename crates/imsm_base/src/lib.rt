@@ -4,6 +4,7 @@
 
 mod bounds;
 mod number;
+mod parts;
 mod units;
 
 pub use bounds::{
@@ -11,4 +12,5 @@ pub use bounds::{
     MAX_WRITE_SECTORS, METADATA_SECTORS, SECTOR_BYTES, SERIAL_BYTES,
 };
 pub use number::{get_u16, get_u32, put_u16, put_u32};
+pub use parts::parts_are_determined;
 pub use units::{DiskNo, Geometry, Level, Sector, Serial, Slot, VolNo};

@@ -1,0 +1,44 @@
+use Rattle.std.proofs.Common.{◌≡◌, ℕ, take, sym, ◌∙◌, ap, subst, List, refl}
+use Rattle.imsm_base.specs.Whole.{IsWhole, IsWholeBlock}
+use Rattle.imsm_base.specs.Parts.{block_in}
+use Rattle.imsm_codec.specs.Given.{given_block}
+use Rattle.imsm_codec.specs.Laid.{IsLaid}
+use Rattle.imsm_codec.specs.Checked.{IsChecked, HasBlockFault}
+use Rattle.imsm_codec.proofs.Wholeness.{whole_from_checks, laid_from_checks}
+use Rattle.imsm_codec.proofs.Faulty.{front_not_whole, block_not_whole, at_error}
+use Rattle.imsm_codec.proofs.checks.check.Goals as goal
+
+-- what is said of the first n bytes holds of the block, where n is its size
+of_block : (P : List ℕ → Type 0) (n m : ℕ) (bytes : List ℕ) → n ≡ m → P (take n bytes) → P (take m bytes)
+of_block P n m bytes e p = subst (λ (i : ℕ). P (take i bytes)) e p
+
+pub returns-in_err-check_front-clause-ok : goal.returns-in_err-check_front-clause-ok
+returns-in_err-check_front-clause-ok c =
+    at_error c.from_residual.result c.from_residual.ensures.0 (front_not_whole c.args.bytes.now c.in_err-check_front.field-0.0 (c.in_err-check_front.ensures))
+
+pub returns-in_err-check_parts-clause-ok : goal.returns-in_err-check_parts-clause-ok
+returns-in_err-check_parts-clause-ok c =
+    let fault = c.in_err-check_parts.field-0.0 in
+    at_error c.from_residual-in_err-check_parts.result c.from_residual-in_err-check_parts.ensures.0
+    (block_not_whole c.args.bytes.now fault
+    (of_block (λ (x : List ℕ). HasBlockFault x fault) _ _ c.args.bytes.now c.get_u32.ensures (c.in_err-check_parts.ensures)))
+
+pub invariant_of-result : goal.invariant_of-result
+invariant_of-result c = record {
+  laid = of_block IsLaid _ _ c.args.bytes.now (sym c.get_u32.ensures)
+      (laid_from_checks c.args.bytes.now c.in_ok-check_front.ensures (of_block IsChecked _ _ c.args.bytes.now c.get_u32.ensures (c.in_ok-check_parts.ensures)));
+}
+
+pub returns-clause-whole : goal.returns-clause-whole
+returns-clause-whole c =
+    of_block (λ (x : List ℕ). IsWholeBlock x (block_in x)) _ _ c.args.bytes.now (sym c.get_u32.ensures)
+    (whole_from_checks c.args.bytes.now c.in_ok-check_front.ensures (of_block IsChecked _ _ c.args.bytes.now c.get_u32.ensures (c.in_ok-check_parts.ensures)))
+
+pub returns-clause-ok : goal.returns-clause-ok
+returns-clause-ok c = (
+  λ ok. (
+    block_in (given_block c.args.bytes.now),
+    whole_from_checks c.args.bytes.now c.in_ok-check_front.ensures (of_block IsChecked _ _ c.args.bytes.now c.get_u32.ensures (c.in_ok-check_parts.ensures)),
+  ),
+  λ w. refl,
+)

@@ -1,0 +1,4 @@
+pub mod Laid
+pub mod Mpb
+pub mod Given
+pub mod Checked

@@ -1,0 +1,15 @@
+//! Metadata blocks: the check of a block's bytes, and the readers of its fields.
+#![tactic(auto)]
+
+mod bytes;
+mod checks;
+mod disk;
+mod fault;
+mod header;
+mod layout;
+mod mpb;
+mod tail;
+
+pub use checks::check;
+pub use fault::MpbFault;
+pub use mpb::MpbRef;
