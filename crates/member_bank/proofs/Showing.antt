@@ -2,6 +2,7 @@
 use Rattle.std.proofs.Common.{◌≡◌, ◌≢◌, ◌≤◌, ◌<◌, ◌+◌, ℕ, Bool, true, false, List, [], ◌∷◌, ◌++◌, length, get_or, take, Option, Some, None, refl, sym, ◌∙◌, ap, subst, arith, ◌⊎◌, inl, inr}
 use Rattle.std.specs.Prelude.{slice_get, slice_index_or, ◌==◌, if◌then◌else◌, IfSome, IsSomeAnd, is_none}
 use Rattle.std.specs.List.{AllByRecursion}
+use Rattle.std.proofs.Math.ListN.{get_or-map}
 use Rattle.std.proofs.Math.Seq.{map-set_same}
 use Rattle.std.proofs.lemmas.List.{get_or-set_same, get_or-set_other, get_or_append_left, get_or-append_right, length-set, length-map, length-take, length_push, map_push}
 use Rattle.std.proofs.lemmas.List.Quantifiers.{all_pairs_push}
@@ -249,9 +250,10 @@ logs_written b new d place sectors went answer is = record {
   logs = rw is (logs_with b.room b.log (record { disk = d; what = Write place sectors (stored_of (kept_next b) (length sectors)); went = went }));
 }
 
-pub sizes_written : (b new : MemState) (d place : ℕ) (sectors : List Sector) (went : Bool) → new ≡ written b d place sectors went → place + length sectors ≤ length (get_or b.present d [])
+pub sizes_written : (b new : MemState) (d place : ℕ) (sectors : List Sector) (went : Bool) → new ≡ written b d place sectors went → place + length sectors ≤ get_or (sizes_of b.present) d 0
     → sizes_of new.present ≡ sizes_of b.present
 sizes_written b new d place sectors went is within =
+    let size : get_or (sizes_of b.present) d 0 ≡ length (get_or b.present d []) = get_or-map (λ (x : List Sector). length x) b.present d [] in
     let less : place + length (take (stored_of (kept_next b) (length sectors)) sectors) ≤ length (get_or b.present d []) = omega (arith, length-take (stored_of (kept_next b) (length sectors)) sectors) in
     rw is (sizes_put b.present d place (take (stored_of (kept_next b) (length sectors)) sectors) less)
 

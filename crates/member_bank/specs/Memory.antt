@@ -1,5 +1,5 @@
 -- What contracts see of a bank in memory. Source: this project's own.
-use Rattle.std.specs.Prelude.{◌≡◌, ◌≢◌, ◌≤◌, ◌<◌, ℕ, ◌+◌, ◌-◌, ◌^◌, ◌==◌, min, Bool, if◌then◌else◌, List, [], ◌∷◌, ◌++◌, length, take, replicate, find, slice_set, slice_index, Option, Some, None, IfSome}
+use Rattle.std.specs.Prelude.{◌≡◌, ◌≢◌, ◌≤◌, ◌<◌, ℕ, ◌==◌, min, Bool, List, [], ◌∷◌, ◌++◌, length, take, replicate, find, Option, Some, None, IfSome}
 use Rattle.std.specs.List.{AllByRecursion, AllPairs}
 use Rattle.std.specs.Option.{option_map}
 use Rattle.imsm_base.specs.declared.bounds.TheConstants.{MAX_DISKS}

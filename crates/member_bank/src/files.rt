@@ -138,7 +138,9 @@ impl Bank for FileBank {
     {
         let file = &self.files[d.0 as usize];
         let mut sector = Sector([0; 512]);
-        let went = file.read_exact_at(&mut sector.0, place * SECTOR_BYTES as u64).is_ok();
+        let went = file
+            .read_exact_at(&mut sector.0, place * SECTOR_BYTES as u64)
+            .is_ok();
         answer(&mut self.faults, d, went)?;
         *into = sector;
         Ok(())

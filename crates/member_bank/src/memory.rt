@@ -225,8 +225,8 @@ impl Bank for MemBank {
     }
 
     fn read(&mut self, d: DiskNo, place: u64, into: &mut Sector) -> Result<(), Failed>
-        requires disk { d.0 < length self.old.present }
-        requires place { place < length (slice_index_or self.old.present d.0 []) }
+        requires disk { d.0 < length (sizes_of self.old.present) }
+        requires place { place < slice_index (sizes_of self.old.present) d.0 }
         ensures answer { is_ok result ≡ is_none (kept_next self.old) }
         ensures called { self.new ≡ called self.old (record { disk = d.0; what = Read place; went = is_ok result }) }
         ensures given { OnOk result (slice_get (slice_index_or self.old.present d.0 []) place ≡ Some into.new) }
@@ -244,8 +244,8 @@ impl Bank for MemBank {
     }
 
     fn write(&mut self, d: DiskNo, place: u64, from: &[Sector]) -> Result<(), Failed>
-        requires disk { d.0 < length self.old.present }
-        requires place { place + length from.now ≤ length (slice_index_or self.old.present d.0 []) }
+        requires disk { d.0 < length (sizes_of self.old.present) }
+        requires place { place + length from.now ≤ slice_index (sizes_of self.old.present) d.0 }
         ensures answer { is_ok result ≡ is_none (kept_next self.old) }
         ensures written { self.new ≡ written self.old d.0 place from.now (is_ok result) }
         ensures logs { (stored : ℕ) × LogsWrite self.old.log self.new.log d.0 place from.now (is_ok result) stored }
@@ -258,7 +258,7 @@ impl Bank for MemBank {
     }
 
     fn sync(&mut self, d: DiskNo) -> Result<(), Failed>
-        requires { d.0 < length self.old.present }
+        requires { d.0 < length (sizes_of self.old.present) }
         ensures answer { is_ok result ≡ is_none (kept_next self.old) }
         ensures called { self.new ≡ called self.old (record { disk = d.0; what = Sync; went = is_ok result }) }
         ensures logs { Logs self.old.log self.new.log (record { disk = d.0; what = Sync; went = is_ok result }) }
