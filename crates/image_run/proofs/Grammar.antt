@@ -10,7 +10,7 @@ use Rattle.std.proofs.lemmas.List.{length-map}
 use Rattle.std.proofs.lemmas.List.Folds.{list_all-map}
 use Rattle.image_run.specs.declared.words.ImageArg.{ImageArg}
 use Rattle.image_run.specs.Words.{ImageWord, IsImageWord, IsCommand, is_name, is_name_byte, is_apart_from, are_distinct, assemble_word, spelled, texts}
-use Rattle.image_run.specs.Images.{word_of, words_of}
+use Rattle.image_run.specs.Args.{word_of, words_of}
 use Rattle.image_run.proofs.Names.{bytes_of_name, not_equals, same_word}
 
 and_left : (a b : Bool) → (a && b) ≡ true → a ≡ true

@@ -3,3 +3,4 @@ pub mod Names
 pub mod Grammar
 pub mod Trimmed
 pub mod Pieces
+pub mod Reading

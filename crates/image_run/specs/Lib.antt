@@ -1,5 +1,6 @@
 pub mod Outside
 pub mod Words
+pub mod Args
 pub mod Images
 pub mod Text
 pub mod Memory

@@ -1,6 +1,7 @@
 //! A command over images: its words, what it does and what it prints.
 #![tactic(auto)]
 
+mod images;
 mod memory;
 mod outside;
 mod report;
@@ -8,6 +9,7 @@ mod shelf;
 mod text;
 mod words;
 
+pub use images::ImageRead;
 pub use memory::{MemFault, MemSink};
 pub use outside::{Shelf, ShelfFault, Sink, write_all};
 pub use report::Report;

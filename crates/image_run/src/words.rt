@@ -3,7 +3,7 @@ ghost use Rattle.std.specs.Prelude.{◌≡◌, ◌↔◌, ◌&&◌, nat_le, ℕ,
 ghost use Rattle.std.specs.List.{AllByRecursion, list_all};
 ghost use Rattle.std.specs.Option.{IsSomeAnd};
 ghost use Rattle.image_run.specs.Words.{ImageWord, IsImageWord, IsAssemble, IsCommand, are_distinct, assemble_word, is_apart_from, is_name, is_name_byte, padded_name, spelled, texts};
-ghost use Rattle.image_run.specs.Images.{word_of, words_of};
+ghost use Rattle.image_run.specs.Args.{word_of, words_of};
 
 use arrayvec::ArrayVec;
 use imsm_base::{MAX_DISKS, SERIAL_BYTES, Serial};

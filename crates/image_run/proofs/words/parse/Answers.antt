@@ -1,6 +1,6 @@
 use Rattle.std.proofs.Common.{◌≡◌, ◌∙◌, length, sym, ap, refl, arith}
 use Rattle.image_run.specs.Words.{are_distinct}
-use Rattle.image_run.specs.Images.{words_of}
+use Rattle.image_run.specs.Args.{words_of}
 use Rattle.image_run.proofs.Grammar.{assembled, not_distinct, same_count, some_left}
 use Rattle.image_run.proofs.words.parse.Goals as goal
 
