@@ -1,3 +1,4 @@
 pub mod Twins
 pub mod Wholeness
 pub mod Faulty
+pub mod Places

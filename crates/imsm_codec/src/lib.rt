@@ -7,8 +7,11 @@ mod disk;
 mod fault;
 mod header;
 mod layout;
+mod map;
 mod mpb;
+mod record;
 mod tail;
+mod volume;
 
 pub use checks::check;
 pub use fault::MpbFault;
