@@ -2,3 +2,4 @@ pub mod Twins
 pub mod Wholeness
 pub mod Faulty
 pub mod Places
+pub mod Found

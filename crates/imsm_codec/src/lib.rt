@@ -12,7 +12,9 @@ mod mpb;
 mod record;
 mod tail;
 mod volume;
+mod whole_disk;
 
 pub use checks::check;
 pub use fault::MpbFault;
 pub use mpb::MpbRef;
+pub use whole_disk::is_whole_disk;

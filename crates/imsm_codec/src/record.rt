@@ -12,7 +12,7 @@ use imsm_base::{Serial, get_u32};
 impl MpbRef<'_> {
     /// The bytes from a disk's record on.
     #[tactic(auto, unfolding(imsm_base::specs::Parts::block_in))]
-    fn record_bytes(&self, i: u8) -> &[u8]
+    pub(crate) fn record_bytes(&self, i: u8) -> &[u8]
         requires { i < disk_count_of (block_of self.now) }
         ensures disk { cut_at 0 disk_lengths result.now ≡ disk_at i (block_of self.now) }
         ensures room { 48 ≤ length result.now }
