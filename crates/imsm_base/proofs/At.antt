@@ -1,6 +1,6 @@
 -- Where each record, volume, map and entry stands.
 use Rattle.std.proofs.Common.{◌≡◌, ℕ, zero, suc, ◌+◌, ◌-◌, ◌*◌, ◌≤◌, ◌<◌, List, [], ◌∷◌, length, map, take, drop, get_or, replicate, refl, sym, ◌∙◌, ap, arith, add-one}
-use Rattle.std.proofs.lemmas.List.{drop-drop, get_or-map}
+use Rattle.std.proofs.lemmas.List.{drop-drop, get_or-map, length-replicate}
 use Rattle.imsm_base.specs.Fields.{Part, number, number_at}
 use Rattle.imsm_base.specs.Layout.{Block, Volume, Map, disk_lengths}
 use Rattle.imsm_base.specs.Parts.{cut_at, disks_in, map_in, maps_in, volume_in, volumes_in, map_room, maps_room, volume_room, volumes_room, behind_disks, block_in}
@@ -83,3 +83,30 @@ entry_at zero slot at bytes below = absurd (omega arith)
 entry_at (suc n) zero at bytes below = ap (λ (i : ℕ). take 4 (drop i bytes)) (omega arith)
 entry_at (suc n) (suc slot) at bytes below =
     entry_at n slot (at + 4) bytes (omega arith) ∙ ap (λ (i : ℕ). take 4 (drop i bytes)) (omega arith)
+
+-- each volume ends where all do, or before
+pub volumes_fit : (k i : ℕ) (bytes : List ℕ) → i < k → place_of i bytes + volume_room (volume_in (drop (place_of i bytes) bytes)) ≤ place_of k bytes
+volumes_fit k i bytes below = omega (arith, place_of-suc i bytes, place_of-below (suc i) k bytes (omega arith))
+
+-- each map ends where all do, or before
+pub maps_fit : (k m : ℕ) (bytes : List ℕ) → m < k → map_place m bytes + map_room (map_in (drop (map_place m bytes) bytes)) ≤ map_place k bytes
+maps_fit zero m bytes below = absurd (omega arith)
+maps_fit (suc k) zero bytes below = omega arith
+maps_fit (suc k) (suc m) bytes below =
+    let n : ℕ = map_room (map_in bytes) in
+    let at : ℕ = map_place m (drop n bytes) in
+    let more : at + map_room (map_in (drop at (drop n bytes))) ≤ map_place k (drop n bytes) = maps_fit k m (drop n bytes) (omega arith) in
+    let same : map_room (map_in (drop at (drop n bytes))) ≡ map_room (map_in (drop (n + at) bytes)) = ap (λ (x : List ℕ). map_room (map_in x)) (drop-drop at n bytes) in
+    omega arith
+
+pub length-cut_at : (at : ℕ) (ns bytes : List ℕ) → length (cut_at at ns bytes) ≡ length ns
+length-cut_at at [] bytes = refl
+length-cut_at at (n ∷ ns) bytes = ap suc (length-cut_at (at + n) ns bytes)
+
+-- the number in a slot's entry
+pub order_in-map : (bytes : List ℕ) (slot : ℕ) → slot < number_at 1 16 bytes → get_or (map number (map_in bytes).entries) slot 0 ≡ number_at 4 (48 + 4 * slot) bytes
+order_in-map bytes slot below =
+    let n : ℕ = number_at 1 16 bytes in
+    let entries : List (List ℕ) = cut_at 48 (replicate n 4) bytes in
+    let len : length entries ≡ n = length-cut_at 48 (replicate n 4) bytes ∙ length-replicate n 4 in
+    get_or-map number entries slot [] 0 (omega arith) ∙ ap number (entry_at n slot 48 bytes below)

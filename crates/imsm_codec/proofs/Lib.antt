@@ -1,3 +1,5 @@
 pub mod Twins
 pub mod Wholeness
 pub mod Faulty
+pub mod Places
+pub mod Found

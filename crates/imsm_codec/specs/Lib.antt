@@ -2,3 +2,4 @@ pub mod Laid
 pub mod Mpb
 pub mod Given
 pub mod Checked
+pub mod Own

@@ -7,9 +7,14 @@ mod disk;
 mod fault;
 mod header;
 mod layout;
+mod map;
 mod mpb;
+mod record;
 mod tail;
+mod volume;
+mod whole_disk;
 
 pub use checks::check;
 pub use fault::MpbFault;
 pub use mpb::MpbRef;
+pub use whole_disk::is_whole_disk;

@@ -1,20 +1,7 @@
 use Rattle.std.proofs.Common.{◌≡◌, ℕ, ◌+◌, ◌-◌, ◌≤◌, List, length, drop, refl, sym, ◌∙◌, ap, arith}
-use Rattle.std.proofs.lemmas.List.{drop-drop, length-drop}
-use Rattle.imsm_base.specs.Parts.{volume_in, volume_room, behind_disks}
-use Rattle.imsm_base.proofs.At.{place_of, place_of-more}
+use Rattle.imsm_base.specs.Parts.{behind_disks}
+use Rattle.imsm_codec.proofs.Places.{ends, left, next}
 use Rattle.imsm_codec.proofs.layout.check_volumes.Goals as goal
-
--- the volume that stands at a place, and where it ends
-ends : (i : ℕ) (rest start : List ℕ) → rest ≡ drop (place_of i start) start → place_of (i + 1) start ≡ place_of i start + volume_room (volume_in rest)
-ends i rest start at = place_of-more i start ∙ ap (λ (x : List ℕ). place_of i start + volume_room (volume_in x)) (sym at)
-
-left : (i : ℕ) (rest start : List ℕ) → rest ≡ drop (place_of i start) start → length rest ≡ length start - place_of i start
-left i rest start at = ap (λ (x : List ℕ). length x) at ∙ length-drop (place_of i start) start
-
-next : (i : ℕ) (rest start : List ℕ) → rest ≡ drop (place_of i start) start → drop (volume_room (volume_in rest)) rest ≡ drop (place_of (i + 1) start) start
-next i rest start at =
-    ap (drop (volume_room (volume_in rest))) at ∙ drop-drop (volume_room (volume_in rest)) (place_of i start) start
-    ∙ ap (λ (n : ℕ). drop n start) (sym (ends i rest start at))
 
 pub returns-then-rest-len : goal.returns-then-rest-len
 returns-then-rest-len c =
