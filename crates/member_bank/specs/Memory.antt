@@ -25,6 +25,7 @@ pub record MemState : Type 0 where
   pub calls : ℕ
   pub room : LogRoom
 
+-- a bank that was made just now
 abbrev pub opened : List MemDisk → List FailAt → LogRoom → MemState
 opened disks fails room = record {
   serials = (contents_of disks).serials;
@@ -79,6 +80,7 @@ pub record IsLog (opening present : List (List Sector)) (log : List Call) : Type
   pub named : AllByRecursion (λ (c : Call). c.disk < length present) log
   pub shown : Shows opening log present
 
+-- what is kept of disks, counts and log fits together
 pub record IsMemory (serials : List Serial) (opening present : List (List Sector)) (faults : List ℕ) (log : Option (List Call)) : Type 0 where
   pub told : IfSome log (IsLog opening present)
   pub few : length present ≤ MAX_DISKS

@@ -1,13 +1,12 @@
 //! A bank over real files. What stands in them is not told.
 ghost use Rattle.std.specs.Prelude.{◌≡◌, ◌≢◌, ◌+◌, ◌*◌, ◌^◌, ◌≤◌, ◌<◌, ℕ, [], None, length, slice_index, is_ok, All, IfOk, OnOk, OnErr};
-ghost use Rattle.member_bank.specs.Told.{Keeps, Logs, LogsWrite, Gives};
 ghost use Rattle.member_bank.specs.Faults.{HasCause, faults_with};
 ghost use Rattle.member_bank.specs.Files.{with_file};
-ghost use Rattle.device_log.specs.Log.{Read, Sync};
+ghost use Rattle.member_bank.specs.declared.files.FileBankFault.TheVariants.{Memory};
 
 use crate::counts::answer;
 use crate::{Bank, Failed};
-use imsm_base::{DiskNo, MAX_DISKS, MAX_WRITE_SECTORS, SECTOR_BYTES, Sector, Serial};
+use imsm_base::{DiskNo, MAX_DISKS, SECTOR_BYTES, Sector, Serial};
 use std::alloc::{AllocError, Global};
 use std::fs::File;
 use std::io;
@@ -25,6 +24,8 @@ pub enum FileBankFault {
 }
 
 impl From<AllocError> for FileBankFault {
+    ghost from_gives = { λ _ fault. fault ≡ Memory };
+
     fn from(_: AllocError) -> FileBankFault {
         FileBankFault::Memory
     }

@@ -181,6 +181,8 @@ mod tests {
         let both = OpenOptions::new().read(true).write(true).open(&rt, path)?;
         bank.add(Serial([1; 16]), both)?;
         let disk = DiskNo(0);
+        assert_eq!(rt; bank.disks(), 1);
+        assert_eq!(rt; bank.sectors(disk), 2);
         assert!(rt; writes(&rt, &mut bank, disk, [4, 5]));
         assert!(rt; syncs(&rt, &mut bank, disk));
         assert_eq!(rt; byte_at(&rt, &mut bank, disk, 1), Some(5));

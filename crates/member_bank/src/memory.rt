@@ -1,10 +1,10 @@
 //! A bank in memory, which tells its contents, and its log as far as the room for it goes.
-ghost use Rattle.std.specs.Prelude.{◌≡◌, ◌≢◌, ◌+◌, ◌≤◌, ◌<◌, ℕ, List, [], ◌∷◌, Some, length, map, take, slice_get, slice_index, slice_index_or, is_ok, is_none, All, IfOk, IfSome, OnOk, OnErr};
+ghost use Rattle.std.specs.Prelude.{◌≡◌, ◌≢◌, ◌+◌, ◌≤◌, ◌<◌, ℕ, [], Some, length, slice_get, slice_index, slice_index_or, is_ok, is_none, All, IfOk, IfSome, OnOk, OnErr};
 ghost use Rattle.std.specs.List.{AllPairs};
 ghost use Rattle.device_log.specs.Log.{Read, Write, Sync};
 ghost use Rattle.member_bank.specs.Told.{Keeps, Logs, LogsWrite, Gives};
 ghost use Rattle.member_bank.specs.Faults.{HasCause};
-ghost use Rattle.member_bank.specs.Contents.{contents_of, sectors_of, sizes_of, laid_on, Shows};
+ghost use Rattle.member_bank.specs.Contents.{contents_of, sectors_of, sizes_of, Shows};
 ghost use Rattle.member_bank.specs.History.{what_of, count_of};
 ghost use Rattle.member_bank.specs.Memory.{opened, with_disk, called, kept_at as kept_of, kept_next, stored_of, written};
 
@@ -12,7 +12,7 @@ use crate::counts::{answer, next};
 use crate::disks::{Disks, MemDisk};
 use crate::history::{Asked, History, LogRoom, Note};
 use crate::{Bank, Failed};
-use imsm_base::{DiskNo, MAX_DISKS, MAX_WRITE_SECTORS, Sector, Serial};
+use imsm_base::{DiskNo, MAX_DISKS, Sector, Serial};
 use std::alloc::{AllocError, Global};
 use std::marker::Model;
 use thiserror::Error;
