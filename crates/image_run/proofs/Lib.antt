@@ -4,3 +4,5 @@ pub mod Grammar
 pub mod Trimmed
 pub mod Pieces
 pub mod Reading
+pub mod Tables
+pub mod Held

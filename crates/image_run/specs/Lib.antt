@@ -3,4 +3,5 @@ pub mod Words
 pub mod Args
 pub mod Images
 pub mod Text
+pub mod Reports
 pub mod Memory

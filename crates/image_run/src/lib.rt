@@ -7,6 +7,7 @@ mod outside;
 mod report;
 mod shelf;
 mod text;
+mod verdict;
 mod words;
 
 pub use images::ImageRead;

@@ -1,0 +1,5 @@
+use Rattle.image_run.proofs.Held.{first_other_at}
+use Rattle.image_run.proofs.verdict.first_other.Goals as goal
+
+pub returns-then-not-holds : goal.returns-then-not-holds
+returns-then-not-holds c = first_other_at c.args.block.now c.args.images.now c.loop-image.image-index _ c.loop-image-test.true c.loop-image.invariant ?
