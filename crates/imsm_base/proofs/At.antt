@@ -1,8 +1,8 @@
 -- Where each record, volume, map and entry stands.
-use Rattle.std.proofs.Common.{◌≡◌, ℕ, zero, suc, ◌+◌, ◌-◌, ◌*◌, ◌≤◌, ◌<◌, List, [], ◌∷◌, length, map, take, drop, get_or, replicate, refl, sym, ◌∙◌, ap, arith, add-one}
+use Rattle.std.proofs.Common.{◌≡◌, ℕ, zero, suc, ◌+◌, ◌-◌, ◌*◌, ◌≤◌, ◌<◌, List, [], ◌∷◌, length, map, take, drop, get_or, replicate, refl, ◌∙◌, ap, arith, add-one}
 use Rattle.std.proofs.lemmas.List.{drop-drop, get_or-map, length-replicate}
-use Rattle.imsm_base.specs.Fields.{Part, number, number_at}
-use Rattle.imsm_base.specs.Layout.{Block, Volume, Map, disk_lengths}
+use Rattle.imsm_base.specs.Fields.{number, number_at}
+use Rattle.imsm_base.specs.Layout.{Volume, Map, disk_lengths}
 use Rattle.imsm_base.specs.Parts.{cut_at, disks_in, map_in, maps_in, volume_in, volumes_in, map_room, maps_room, volume_room, volumes_room, behind_disks, block_in}
 
 -- a record stands at its index times its bytes

@@ -4,3 +4,4 @@ pub mod Whole
 pub mod Volumes
 pub mod FirstForm
 pub mod Parts
+pub mod Vector

@@ -6,6 +6,7 @@ mod bounds;
 mod number;
 mod parts;
 mod units;
+mod vector;
 
 pub use bounds::{
     FIRST_GENERATION_REFUSED, HEADER_BYTES, MAX_BLOCK_BYTES, MAX_DISKS, MAX_MEMBERS, MAX_VOLUMES,
@@ -14,3 +15,4 @@ pub use bounds::{
 pub use number::{get_u16, get_u32, put_u16, put_u32};
 pub use parts::parts_are_determined;
 pub use units::{DiskNo, Geometry, Level, Sector, Serial, Slot, VolNo};
+pub use vector::{example_of_a_torn_block, example_of_a_whole_block};

@@ -3,3 +3,4 @@ pub mod Wholeness
 pub mod Faulty
 pub mod Places
 pub mod Found
+pub mod Mirror

@@ -74,3 +74,11 @@ pub order_found : (rest : List ℕ) (m : Map) (slot : ℕ) → map_in rest ≡ m
 order_found rest m slot is below =
     let here : slot < member_count_of (map_in rest) = subst (λ (x : Map). slot < member_count_of x) (sym is) below in
     sym (order_in-map rest slot here) ∙ ap (order_at slot) is
+
+-- there is a first map
+some_of_two : (b : Bool) → 0 < (if b then 1 else 2)
+some_of_two true = omega arith
+some_of_two false = omega arith
+
+pub some_map : (v : Volume) → 0 < map_count_of v
+some_map v = some_of_two (migration_state_of v == 0)

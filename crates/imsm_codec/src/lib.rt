@@ -5,6 +5,7 @@ mod bytes;
 mod checks;
 mod disk;
 mod fault;
+mod first_form;
 mod header;
 mod layout;
 mod map;
@@ -13,8 +14,10 @@ mod record;
 mod tail;
 mod volume;
 mod whole_disk;
+mod words;
 
 pub use checks::check;
 pub use fault::MpbFault;
+pub use first_form::is_first_form;
 pub use mpb::MpbRef;
 pub use whole_disk::is_whole_disk;

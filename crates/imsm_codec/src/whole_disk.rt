@@ -21,7 +21,7 @@ fn is_own(mpb: &MpbRef<'_>, i: u8, own: &Serial, only_expected: bool) -> bool
 fn first_own(mpb: &MpbRef<'_>, own: &Serial, only_expected: bool) -> Option<u8>
     ensures { MatchOption result (find (is_own only_expected own.now.0) (block_of mpb.now).disks ≡ None)
         (λ i. (i < disk_count_of (block_of mpb.now))
-            × (find (is_own only_expected own.now.0) (block_of mpb.now).disks ≡ Some (disk_at i (block_of mpb.now)))) }
+        × (find (is_own only_expected own.now.0) (block_of mpb.now).disks ≡ Some (disk_at i (block_of mpb.now)))) }
 {
     for i in 0..mpb.disks() {
         if is_own(mpb, i, own, only_expected) {
@@ -35,7 +35,7 @@ fn first_own(mpb: &MpbRef<'_>, own: &Serial, only_expected: bool) -> Option<u8>
 fn own_record(mpb: &MpbRef<'_>, own: &Serial) -> Option<u8>
     ensures { MatchOption result (own_record own.now.0 (block_of mpb.now) ≡ None)
         (λ i. (i < disk_count_of (block_of mpb.now))
-            × (own_record own.now.0 (block_of mpb.now) ≡ Some (disk_at i (block_of mpb.now)))) }
+        × (own_record own.now.0 (block_of mpb.now) ≡ Some (disk_at i (block_of mpb.now)))) }
 {
     match first_own(mpb, own, true) {
         Some(i) => Some(i),
