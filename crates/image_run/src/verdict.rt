@@ -13,13 +13,7 @@ use crate::images::ImageRead;
 use crate::report::Report;
 use arrayvec::ArrayVec;
 use imsm_base::{MAX_DISKS, Sector, Serial};
-use imsm_codec::{MpbRef, check, is_whole_disk};
-
-fn is_form(mpb: &MpbRef<'_>) -> bool
-    ensures { IsTrue result ↔ IsFirstForm (block_of mpb.now) }
-{
-    unreachable!()
-}
+use imsm_codec::{MpbRef, check, is_first_form, is_whole_disk};
 
 /// The block in an anchor, if it is whole there.
 fn checked(anchor: &Sector) -> Option<MpbRef<'_>>
@@ -34,7 +28,7 @@ fn is_first_anchor(mpb: &MpbRef<'_>, image: &ImageRead) -> bool
     requires { IsWholeBlock (block_bytes mpb.now) (block_of mpb.now) }
     ensures { IsTrue result ↔ IsFirstAnchor image.now.serial.0 image.now.sectors (block_bytes mpb.now) }
 {
-    is_whole_disk(mpb, &image.serial, image.sectors) && is_form(mpb)
+    is_whole_disk(mpb, &image.serial, image.sectors) && is_first_form(mpb)
 }
 
 /// The block in an image's anchor, if the image is of the first form.
