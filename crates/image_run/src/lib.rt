@@ -3,6 +3,7 @@
 
 mod images;
 mod memory;
+mod opening;
 mod outside;
 mod report;
 mod shelf;
