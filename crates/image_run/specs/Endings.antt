@@ -1,9 +1,10 @@
 -- How a command ends. Source: this project's own.
-use Rattle.std.specs.Prelude.{◌≡◌, ℕ, ◌⊎◌, List, ◌++◌, codes, Option, IfSome}
+use Rattle.std.specs.Prelude.{◌≡◌, ℕ, ◌⊎◌, Bool, false, List, ◌++◌, codes, Option, IfSome}
 use Rattle.imsm_base.specs.declared.units.Sector.{Sector}
 use Rattle.imsm_base.specs.declared.units.Serial.{Serial}
 use Rattle.device_log.specs.Log.{Call}
-use Rattle.image_run.specs.Outside.{Adds, OnlyReads}
+use Rattle.member_bank.specs.Faults.{Rose}
+use Rattle.image_run.specs.Outside.{Adds, AddsFront, OnlyReads}
 use Rattle.image_run.specs.Images.{images_told}
 use Rattle.image_run.specs.Words.{ImageWord, serials_named}
 use Rattle.image_run.specs.declared.images.ImageRead.{ImageRead}
@@ -20,6 +21,13 @@ memory_line = codes "memory\n"
 
 abbrev pub open_line : List ℕ → List ℕ
 open_line name = codes "open " ++ (name ++ codes "\n")
+
+-- nothing but this line was written, or a front of it where the sink failed
+pub record EndsWithoutMemory (old new : Option (List ℕ)) (before now : ℕ) : Type 0 where
+  pub well : Bool
+  pub count : ℕ
+  pub front : AddsFront old new memory_line well count
+  pub fault : well ≡ false → Rose before now
 
 -- a status with a report: the volume starts, waits, or isn't built yet
 abbrev pub IsReported : ℕ → Type 0
