@@ -1,21 +1,19 @@
 -- A fault that the steps find is the fault, and there is no other.
-use Rattle.std.proofs.Common.{◌≡◌, ◌≢◌, ℕ, zero, suc, ◌+◌, ◌-◌, ◌<◌, ◌≤◌, ◌⊎◌, inl, inr, List, [], ◌++◌, length, take, drop, Result, Ok, Err, refl, sym, ◌∙◌, ap, subst, arith, true, false}
+use Rattle.std.proofs.Common.{◌≡◌, ℕ, zero, suc, ◌+◌, ◌-◌, ◌<◌, ◌≤◌, inl, inr, List, [], length, drop, Result, Ok, Err, refl, sym, ◌∙◌, ap, subst, arith}
 use Rattle.std.specs.Prelude.{◌↔◌, IsErrOf, ⊤}
 use Rattle.std.proofs.lemmas.Bool.{both_ways, cases_order}
 use Rattle.imsm_base.specs.declared.bounds.TheConstants.{HEADER_BYTES}
 use Rattle.imsm_base.specs.Fields.{Part, number_at}
-use Rattle.imsm_base.specs.Layout.{Volume}
-use Rattle.imsm_base.specs.Whole.{the_signature, IsSize}
+use Rattle.imsm_base.specs.Whole.{IsSize}
 use Rattle.imsm_base.specs.Parts.{volumes_in, behind_disks, behind_volumes, block_in}
 use Rattle.imsm_base.proofs.Apart.{length-volumes_in}
 use Rattle.imsm_base.proofs.At.{place_of, place_of-below}
-use Rattle.imsm_codec.specs.Given.{size_in, given_block}
-use Rattle.imsm_codec.specs.Checked.{IsSigned, IsSized, IsGiven, IsSummed, HasTable, IsTabled, IsDistinct, IsFilled, IsChecked, HasTail, HasRoomFor, HasNoTwins, AreFirstTwins, are_twins_at, HasFrontFault, HasBlockFault}
-use Rattle.imsm_codec.specs.Faults.{Begins, HasTwins, EndsPast, HasBadTail, HasFault}
+use Rattle.imsm_codec.specs.Given.{given_block}
+use Rattle.imsm_codec.specs.Checked.{IsSigned, IsSized, IsGiven, IsSummed, IsTabled, IsDistinct, IsFilled, IsChecked, HasRoomFor, HasNoTwins, AreFirstTwins, are_twins_at, HasFrontFault, HasBlockFault}
+use Rattle.imsm_codec.specs.Faults.{HasTwins, EndsPast, HasBadTail, HasFault}
 use Rattle.imsm_codec.specs.declared.fault.MpbFault.{MpbFault}
 use Rattle.imsm_codec.specs.declared.fault.MpbFault.TheVariants.{Short, Signature, Size, Cut, Checksum, Counts, Serials, Volume as VolumeFault, BadBlocks}
-use Rattle.imsm_codec.proofs.Faulty.{front_not_given, block_not_checked}
-use Rattle.imsm_codec.proofs.Laying.{begins_disks, begins_volumes, begins_room, begins_rest, begins_apart, laid_ends, ends_laid, tail_of, tail_laid}
+use Rattle.imsm_codec.proofs.Laying.{begins_disks, begins_room, begins_rest, begins_apart, laid_ends, ends_laid, tail_of, tail_laid}
 
 -- what the steps find, of the bytes
 abbrev pub HasFound : List ℕ → MpbFault → Type 0

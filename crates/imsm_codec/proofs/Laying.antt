@@ -1,17 +1,17 @@
 -- The parts that a fault speaks of are those that are taken apart.
-use Rattle.std.proofs.Common.{◌≡◌, ℕ, ◌+◌, ◌-◌, ◌*◌, ◌<◌, ◌≤◌, List, [], ◌∷◌, ◌++◌, length, take, drop, refl, sym, ◌∙◌, ap, subst, arith}
-use Rattle.std.specs.List.{concat, flat_map, AllByRecursion}
+use Rattle.std.proofs.Common.{◌≡◌, ℕ, ◌+◌, ◌-◌, ◌*◌, ◌≤◌, List, ◌++◌, length, take, drop, refl, sym, ◌∙◌, ap, subst, arith}
+use Rattle.std.specs.List.{concat, flat_map}
 use Rattle.std.proofs.lemmas.List.{drop-drop, drop_at, length-append, length-drop, take-append-drop}
 use Rattle.imsm_base.specs.Fields.{Part, number_at}
-use Rattle.imsm_base.specs.Layout.{Volume, IsVolume, HasLengths, header_lengths, disk_lengths, volume_bytes}
+use Rattle.imsm_base.specs.Layout.{Volume, IsVolume, header_lengths, volume_bytes}
 use Rattle.imsm_base.specs.Whole.{IsAcceptedTail}
 use Rattle.imsm_base.specs.Parts.{cut_at, disks_in, volume_in, volume_room, volumes_in, volumes_room, behind_disks, behind_volumes, block_in}
 use Rattle.imsm_base.proofs.Cut.{length-part, cut_at-lengths, cut_at-joins}
 use Rattle.imsm_base.proofs.Joined.{disks_in-joined, length-disks_bytes, volumes_in-joined, length-volumes_bytes, volume_in-joined, length-volume_bytes}
-use Rattle.imsm_base.proofs.Apart.{disks_in-lengths, length-disks_in, disks_in-joins, volumes_in-are, length-volumes_in, volumes_in-joins, volume_in-is, volume_in-joins}
+use Rattle.imsm_base.proofs.Apart.{disks_in-lengths, length-disks_in, disks_in-joins, volumes_in-are, volumes_in-joins, volume_in-is, volume_in-joins}
 use Rattle.imsm_base.proofs.At.{place_of}
-use Rattle.imsm_codec.specs.Checked.{HasTable, IsTabled, IsDistinct, IsFilled, HasTail, HasRoomFor, HasNoTwins}
-use Rattle.imsm_codec.specs.Faults.{Begins, EndsPast, HasBadTail}
+use Rattle.imsm_codec.specs.Checked.{HasTable, HasTail, HasRoomFor}
+use Rattle.imsm_codec.specs.Faults.{Begins}
 use Rattle.imsm_codec.proofs.Places.{ends, left}
 
 -- what stands behind the header, and behind the disk table

@@ -1,6 +1,6 @@
-use Rattle.std.proofs.Common.{◌≡◌, ℕ, take, sym, ◌∙◌, ap, subst, List, refl}
+use Rattle.std.proofs.Common.{◌≡◌, ℕ, take, sym, subst, List, refl}
 use Rattle.std.proofs.lemmas.Result.{err_from_is_err_and}
-use Rattle.imsm_base.specs.Whole.{IsWhole, IsWholeBlock}
+use Rattle.imsm_base.specs.Whole.{IsWholeBlock}
 use Rattle.imsm_base.specs.Parts.{block_in}
 use Rattle.imsm_codec.specs.Given.{given_block}
 use Rattle.imsm_codec.specs.Laid.{IsLaid}
