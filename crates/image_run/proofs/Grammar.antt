@@ -1,5 +1,5 @@
 -- Words name their images in one way.
-use Rattle.std.proofs.Common.{◌≡◌, ◌<◌, ◌+◌, ◌&&◌, ℕ, suc, zero, List, [], ◌∷◌, ◌++◌, Bool, true, false, length, map, get_or, refl, sym, ◌∙◌, ap, subst, arith, not, String, ◌≤◌}
+use Rattle.std.proofs.Common.{◌≡◌, ◌<◌, ◌&&◌, ℕ, suc, zero, List, [], ◌∷◌, ◌++◌, Bool, true, false, length, map, get_or, refl, sym, ◌∙◌, ap, arith, String, ◌≤◌}
 use Rattle.std.specs.Prelude.{◌==◌}
 use Rattle.std.proofs.lemmas.Bool.Decides.{nat_tests}
 use Rattle.std.specs.Prelude.{string_bytes}
@@ -9,7 +9,7 @@ use Rattle.std.proofs.lemmas.Bool.{false≢true}
 use Rattle.std.proofs.lemmas.List.{length-map}
 use Rattle.std.proofs.lemmas.List.Folds.{list_all-map}
 use Rattle.image_run.specs.declared.words.ImageArg.{ImageArg}
-use Rattle.image_run.specs.Words.{ImageWord, IsImageWord, IsCommand, is_name, is_name_byte, is_apart_from, are_distinct, assemble_word, spelled, texts}
+use Rattle.image_run.specs.Words.{ImageWord, IsImageWord, IsCommand, is_name_byte, is_apart_from, are_distinct, assemble_word, spelled, texts}
 use Rattle.image_run.specs.Args.{word_of, words_of}
 use Rattle.image_run.proofs.Names.{bytes_of_name, not_equals, same_word}
 
@@ -77,8 +77,8 @@ pub not_distinct : (words : List (String Global)) (first : String Global) (rest 
 not_distinct words first rest vs split same each repeated command =
     let ws = command.0 in
     let rests : map spelled vs ≡ map spelled ws =
-        let both : string_bytes first ∷ texts rest ≡ assemble_word ∷ map spelled ws = ap texts (sym split) ∙ command.1.words_are in
-        let tails : texts rest ≡ map spelled ws = cc in sym same ∙ tails in
+    let both : string_bytes first ∷ texts rest ≡ assemble_word ∷ map spelled ws = ap texts (sym split) ∙ command.1.words_are in
+    let tails : texts rest ≡ map spelled ws = cc in sym same ∙ tails in
     let equal : vs ≡ ws = words_same vs ws each command.1.named.each rests in
     false≢true (repeated ∙ ap are_distinct equal ∙ command.1.named.distinct)
 

@@ -1,11 +1,10 @@
 -- An image that holds a block of the first form.
-use Rattle.std.proofs.Common.{◌≡◌, ◌<◌, ◌+◌, ℕ, zero, suc, List, [], ◌∷◌, ◌++◌, Option, Some, None, length, get_or, take, drop, refl, sym, ◌∙◌, ap, subst, arith}
+use Rattle.std.proofs.Common.{◌≡◌, ◌<◌, ℕ, zero, suc, List, [], ◌∷◌, ◌++◌, Option, Some, None, length, get_or, take, drop, refl, sym, ap, subst, arith}
 use Rattle.std.specs.List.{AllByRecursion}
 use Rattle.std.specs.Option.{IsSomeAnd}
 use Rattle.imsm_base.specs.declared.units.Sector.{Sector}
-use Rattle.imsm_base.specs.declared.units.Serial.{Serial}
 use Rattle.image_run.specs.declared.images.ImageRead.{ImageRead}
-use Rattle.image_run.specs.Reports.{Holds, IsFirstAnchor, IsFirstOther, anchor_block, first_block, block_read}
+use Rattle.image_run.specs.Reports.{Holds, IsFirstAnchor, IsFirstOther, anchor_block}
 
 pub holds_it : (block : List ℕ) (image : ImageRead) (a : Sector) → Some a ≡ image.anchor → block ≡ anchor_block a → IsFirstAnchor image.serial.0 image.sectors block → Holds block image
 holds_it block image a read is first = record {

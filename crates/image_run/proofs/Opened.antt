@@ -1,6 +1,6 @@
 -- One more image is opened: its serial is a new one.
-use Rattle.std.proofs.Common.{◌≡◌, ◌≢◌, ◌≤◌, ◌<◌, ◌+◌, ◌-◌, ◌&&◌, ℕ, zero, suc, List, [], ◌∷◌, ◌++◌, Bool, true, false, not, length, map, take, get_or, Option, Some, None, refl, sym, ◌∙◌, ap, subst, arith}
-use Rattle.std.specs.Prelude.{All, IfSome, nat_le, replicate}
+use Rattle.std.proofs.Common.{◌≡◌, ◌≢◌, ◌≤◌, ◌<◌, ◌+◌, ◌-◌, ◌&&◌, ℕ, zero, suc, List, [], ◌∷◌, ◌++◌, Bool, true, false, not, length, take, get_or, Option, Some, None, refl, sym, ◌∙◌, ap, subst, arith}
+use Rattle.std.specs.Prelude.{IfSome, nat_le, replicate}
 use Rattle.std.specs.List.{AllByRecursion, list_all}
 use Rattle.std.specs.Option.{IsSomeAnd}
 use Rattle.std.specs.Str.{bytes_eq}
@@ -16,7 +16,7 @@ use Rattle.device_log.specs.Log.{Call}
 use Rattle.member_bank.specs.Told.{Keeps}
 use Rattle.image_run.specs.Outside.{IsNew, HasOneMore, HoldsFresh}
 use Rattle.image_run.specs.declared.words.ImageArg.{ImageArg}
-use Rattle.image_run.specs.Words.{ImageWord, IsImageWord, is_name, is_name_byte, is_apart_from, are_distinct, padded_name, serial_named, serials_named}
+use Rattle.image_run.specs.Words.{ImageWord, IsImageWord, is_name, is_name_byte, is_apart_from, are_distinct, serial_named, serials_named}
 use Rattle.image_run.specs.Args.{word_of, words_of}
 use Rattle.image_run.proofs.Names.{bytes_of_name}
 
@@ -111,13 +111,13 @@ one_more_held serials opening log (Some b) (Some c) images k d serial below is h
     let inside : k < length (words_of images) = omega (arith, words_length images) in
     let same : serial ≡ serial_named (get_or (words_of images) k (word_of d)) = is ∙ ap serial_named (sym (word_get images k d)) in
     let next : serials_named (take (k + 1) (words_of images)) ≡ serials_named (take k (words_of images)) ++ serial ∷ [] =
-        ap serials_named (take_more (words_of images) k (word_of d) inside) ∙ map-append serial_named (take k (words_of images)) (get_or (words_of images) k (word_of d) ∷ [])
-        ∙ ap (λ (s : Serial). serials_named (take k (words_of images)) ++ s ∷ []) (sym same) in
+    ap serials_named (take_more (words_of images) k (word_of d) inside) ∙ map-append serial_named (take k (words_of images)) (get_or (words_of images) k (word_of d) ∷ [])
+    ∙ ap (λ (s : Serial). serials_named (take k (words_of images)) ++ s ∷ []) (sym same) in
     record {
       named = more.named ∙ ap (λ (xs : List Serial). xs ++ serial ∷ []) holds.named ∙ sym next;
       fresh = still_fresh (log b) (log c) holds.fresh more.logged;
     }
   where
-  still_fresh : (old new : Option (List Call)) → IfSome old (λ l. l ≡ []) → Keeps old new → IfSome new (λ l. l ≡ [])
-  still_fresh old None fresh keeps = tt
-  still_fresh old (Some l) fresh keeps = subst (λ (o : Option (List Call)). IfSome o (λ l. l ≡ [])) (keeps l refl) fresh
+    still_fresh : (old new : Option (List Call)) → IfSome old (λ l. l ≡ []) → Keeps old new → IfSome new (λ l. l ≡ [])
+    still_fresh old None fresh keeps = tt
+    still_fresh old (Some l) fresh keeps = subst (λ (o : Option (List Call)). IfSome o (λ l. l ≡ [])) (keeps l refl) fresh

@@ -1,5 +1,5 @@
 -- Pieces appended one after the other.
-use Rattle.std.proofs.Common.{◌≡◌, ℕ, List, ◌++◌, refl, append_assoc}
+use Rattle.std.proofs.Common.{◌≡◌, ℕ, List, ◌++◌, append_assoc}
 
 pub five : (o x1 x2 x3 x4 x5 a b d e f : List ℕ) → x1 ≡ o ++ a → x2 ≡ x1 ++ b → x3 ≡ x2 ++ d → x4 ≡ x3 ++ e → x5 ≡ x4 ++ f
     → x5 ≡ o ++ (a ++ (b ++ (d ++ (e ++ f))))

@@ -1,7 +1,7 @@
 -- One more anchor that was read.
-use Rattle.std.proofs.Common.{◌≡◌, ◌<◌, ◌≤◌, ◌+◌, ◌&&◌, ◌||◌, ℕ, zero, suc, List, [], ◌∷◌, ◌++◌, Bool, true, false, cond, length, map, get_or, Option, Some, None, refl, sym, ◌∙◌, ap, subst, arith, append_assoc, ltb}
-use Rattle.std.specs.Prelude.{IfSome, slice_get, slice_index, slice_index_or, is_some, nat_lt, ◌==◌, ⊤}
-use Rattle.std.specs.List.{AllByRecursion, list_all, list_any, range_with_len}
+use Rattle.std.proofs.Common.{◌≡◌, ◌<◌, ◌+◌, ◌&&◌, ◌||◌, ℕ, zero, suc, List, [], ◌∷◌, ◌++◌, Bool, true, false, cond, length, map, Option, Some, None, refl, sym, ◌∙◌, ap, subst, arith}
+use Rattle.std.specs.Prelude.{IfSome, slice_get, slice_index, slice_index_or, is_some, nat_lt, ◌==◌}
+use Rattle.std.specs.List.{list_all, range_with_len}
 use Rattle.std.specs.Option.{IsSomeAnd}
 use Rattle.std.proofs.lemmas.Bool.{false≢true, ltb-true, ne_eqb}
 use Rattle.std.proofs.lemmas.Bool.Decides.{nat_tests}
@@ -78,6 +78,7 @@ calls_below : (k n : ℕ) (a : Option Sector) → list_all (is_below (k + 1)) (a
 calls_below k n a = at (nat_lt n METADATA_SECTORS) where
   here : nat_lt k (k + 1) ≡ true
   here = grind (arith, nat_tests)
+
   at : (small : Bool) → list_all (is_below (k + 1)) (cond small [] (record { disk = k; what = Read (anchor_place n); went = is_some a } ∷ [])) ≡ true
   at true = refl
   at false = ap (λ b. b && true) here
@@ -86,6 +87,7 @@ calls_elsewhere : (k n : ℕ) (a : Option Sector) (d p : ℕ) → d < k → was_
 calls_elsewhere k n a d p other = at (nat_lt n METADATA_SECTORS) where
   apart : (k == d) ≡ false
   apart = ne_eqb k d (λ is. omega arith)
+
   at : (small : Bool) → was_read d p (cond small [] (record { disk = k; what = Read (anchor_place n); went = is_some a } ∷ [])) ≡ false
   at true = refl
   at false = ap (λ b. (b && (is_some a && (anchor_place n == p))) || false) apart
@@ -98,18 +100,24 @@ told_here : (o : List (List Sector)) (log : List Call) (k n : ℕ) (a : Option S
 told_here o log k n a unread small reads gives = at (nat_lt n METADATA_SECTORS) refl a small reads gives where
   same : (k == k) ≡ true
   same = grind (arith, nat_tests)
+
   place : (anchor_place n == anchor_place n) ≡ true
   place = grind (arith, nat_tests)
+
   made : Bool → Option Sector → List Call
   made b a = cond b [] (record { disk = k; what = Read (anchor_place n); went = is_some a } ∷ [])
+
   read : (calls : List Call) (b : Bool) → was_read k (anchor_place n) calls ≡ b → was_read k (anchor_place n) (log ++ calls) ≡ b
   read calls b is = list_any-append _ log calls ∙ ap (λ w. w || was_read k (anchor_place n) calls) unread ∙ is
+
   chosen : (calls : List Call) (b : Bool) → was_read k (anchor_place n) calls ≡ b
       → anchor_told o (log ++ calls) k n ≡ cond b (slice_get (slice_index_or o k []) (anchor_place n)) None
   chosen calls b is = ap (λ w. cond w (slice_get (slice_index_or o k []) (anchor_place n)) None) (read calls b is)
+
   tested : (w : Bool) → was_read k (anchor_place n) (record { disk = k; what = Read (anchor_place n); went = w } ∷ []) ≡ w
   tested true = rw (same, place) refl
   tested false = rw same refl
+
   at : (b : Bool) → nat_lt n METADATA_SECTORS ≡ b → (a : Option Sector) → (n < METADATA_SECTORS → a ≡ None) → OnlyReads (log ++ made b a)
       → IfSome a (λ (s : Sector). Stands o (log ++ made b a) k (anchor_place n) s) → a ≡ anchor_told o (log ++ made b a) k n
   at true is a none reads gives = none (ltb-true n METADATA_SECTORS is) ∙ sym (chosen [] false refl)
@@ -150,8 +158,8 @@ are_read_more serials sizes o0 o1 l0 l1 k images image so_far keeps logs gives s
     let n = slice_index sizes k in
     let calls = anchor_calls k n image.anchor in
     let only : (l : List Call) → l1 ≡ Some l → OnlyReads l = λ l is.
-        let h = logs l is in
-        subst OnlyReads (sym h.2) (only_reads_both h.0 calls (so_far.reads h.0 h.1) (calls_only_read k n image.anchor)) in
+    let h = logs l is in
+    subst OnlyReads (sym h.2) (only_reads_both h.0 calls (so_far.reads h.0 h.1) (calls_only_read k n image.anchor)) in
     record {
       reads = only;
       below = λ l is.
@@ -172,21 +180,23 @@ are_read_more serials sizes o0 o1 l0 l1 k images image so_far keeps logs gives s
           ∙ sym (map-range_with_len_more (image_told serials sizes o (before ++ calls)) 0 k k (omega arith)));
     }
   where
-  image_is : (i : ImageRead) (s : Serial) (n : ℕ) (a : Option Sector) → i.serial ≡ s → i.sectors ≡ n → i.anchor ≡ a → i ≡ (let x : ImageRead = record { serial = s; sectors = n; anchor = a } in x)
-  image_is i s n a named sized anchored = rw (← named, ← sized, ← anchored) refl
-  told_elsewhere : (serials : List Serial) (sizes : List ℕ) (o : List (List Sector)) (log : List Call) (k n : ℕ) (a : Option Sector) (d : ℕ) → d < k
-      → image_told serials sizes o log d ≡ image_told serials sizes o (log ++ anchor_calls k n a) d
-  told_elsewhere serials sizes o log k n a d below =
-      let p = anchor_place (slice_index sizes d) in
-      let same : was_read d p (log ++ anchor_calls k n a) ≡ was_read d p log =
-          list_any-append _ log (anchor_calls k n a) ∙ ap (λ b. was_read d p log || b) (calls_elsewhere k n a d p below) ∙ or_false (was_read d p log) in
-      ap (λ (b : Bool). let x : ImageRead = record { serial = slice_index_or serials d blank_serial; sectors = slice_index sizes d; anchor = cond b (slice_get (slice_index_or o d []) p) None } in x) (sym same)
-  told_stands : (o1 : Option (List (List Sector))) (l1 : Option (List Call)) (o : List (List Sector)) (l : List Call) (k p : ℕ) (a : Option Sector) → o1 ≡ Some o → l1 ≡ Some l
-      → IfSome a (λ (s : Sector). Gives o1 l1 k p s) → (before calls : List Call) → l ≡ before ++ calls → IfSome a (λ (s : Sector). Stands o (before ++ calls) k p s)
-  told_stands o1 l1 o l k p None io il gives before calls is = tt
-  told_stands o1 l1 o l k p (Some s) io il gives before calls is =
-      subst (λ (x : List Call). Stands o x k p s) is
-      (subst (λ (x : Option (List Call)). Gives (Some o) x k p s) il (subst (λ (x : Option (List (List Sector))). Gives x l1 k p s) io gives))
+    image_is : (i : ImageRead) (s : Serial) (n : ℕ) (a : Option Sector) → i.serial ≡ s → i.sectors ≡ n → i.anchor ≡ a → i ≡ (let x : ImageRead = record { serial = s; sectors = n; anchor = a } in x)
+    image_is i s n a named sized anchored = rw (← named, ← sized, ← anchored) refl
+
+    told_elsewhere : (serials : List Serial) (sizes : List ℕ) (o : List (List Sector)) (log : List Call) (k n : ℕ) (a : Option Sector) (d : ℕ) → d < k
+        → image_told serials sizes o log d ≡ image_told serials sizes o (log ++ anchor_calls k n a) d
+    told_elsewhere serials sizes o log k n a d below =
+        let p = anchor_place (slice_index sizes d) in
+        let same : was_read d p (log ++ anchor_calls k n a) ≡ was_read d p log =
+        list_any-append _ log (anchor_calls k n a) ∙ ap (λ b. was_read d p log || b) (calls_elsewhere k n a d p below) ∙ or_false (was_read d p log) in
+        ap (λ (b : Bool). let x : ImageRead = record { serial = slice_index_or serials d blank_serial; sectors = slice_index sizes d; anchor = cond b (slice_get (slice_index_or o d []) p) None } in x) (sym same)
+
+    told_stands : (o1 : Option (List (List Sector))) (l1 : Option (List Call)) (o : List (List Sector)) (l : List Call) (k p : ℕ) (a : Option Sector) → o1 ≡ Some o → l1 ≡ Some l
+        → IfSome a (λ (s : Sector). Gives o1 l1 k p s) → (before calls : List Call) → l ≡ before ++ calls → IfSome a (λ (s : Sector). Stands o (before ++ calls) k p s)
+    told_stands o1 l1 o l k p None io il gives before calls is = tt
+    told_stands o1 l1 o l k p (Some s) io il gives before calls is =
+        subst (λ (x : List Call). Stands o x k p s) is
+        (subst (λ (x : Option (List Call)). Gives (Some o) x k p s) il (subst (λ (x : Option (List (List Sector))). Gives x l1 k p s) io gives))
 
 -- the same where the bank's sizes and serials are those of the beginning
 pub are_read_next : (serials serials' : List Serial) (sizes sizes' : List ℕ) (o0 o1 : Option (List (List Sector))) (l0 l1 : Option (List Call)) (k : ℕ) (images more : List ImageRead) (image : ImageRead)
@@ -195,7 +205,6 @@ pub are_read_next : (serials serials' : List Serial) (sizes sizes' : List ℕ) (
     → (slice_index sizes' k < METADATA_SECTORS → image.anchor ≡ None) → slice_get serials' k ≡ Some image.serial → image.sectors ≡ slice_index sizes' k
     → more ≡ images ++ image ∷ [] → AreRead serials sizes o1 l1 (k + 1) more
 are_read_next serials serials' sizes sizes' o0 o1 l0 l1 k images more image so_far same_serials same_sizes keeps logs gives small named sized pushed =
-
     subst (λ (x : List ImageRead). AreRead serials sizes o1 l1 (k + 1) x) (sym pushed)
     (are_read_more serials sizes o0 o1 l0 l1 k images image so_far keeps
     (subst (λ (x : List ℕ). LogsAll l0 l1 (anchor_calls k (slice_index x k) image.anchor)) same_sizes logs)

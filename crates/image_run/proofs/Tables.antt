@@ -1,10 +1,10 @@
 -- The serials of a table of which no image is there, one record after the other.
-use Rattle.std.proofs.Common.{◌≡◌, ◌≤◌, ◌<◌, ◌+◌, ◌∙◌, ℕ, List, [], ◌∷◌, ◌++◌, Bool, true, false, cond, not, length, map, take, get_or, filter, refl, sym, ap, subst, arith}
+use Rattle.std.proofs.Common.{◌≡◌, ◌≤◌, ◌<◌, ◌+◌, ◌∙◌, ℕ, List, [], ◌∷◌, ◌++◌, Bool, true, false, cond, not, length, map, take, get_or, filter, sym, ap, subst, arith}
 use Rattle.std.proofs.lemmas.List.{append-nil, take_more, take_all, length-append, map-append}
 use Rattle.std.proofs.lemmas.List.Elements.{filter-append}
 use Rattle.imsm_base.specs.declared.units.Serial.{Serial}
 use Rattle.imsm_base.specs.Fields.{Part}
-use Rattle.imsm_base.specs.Layout.{Block, disk_count_of, serial_of}
+use Rattle.imsm_base.specs.Layout.{disk_count_of, serial_of}
 use Rattle.imsm_base.specs.Parts.{block_in}
 use Rattle.imsm_base.proofs.Apart.{length-disks_in}
 use Rattle.image_run.specs.declared.images.ImageRead.{ImageRead}
@@ -29,8 +29,8 @@ pub missing_more : (images : List ImageRead) (disks : List Part) (k : ℕ) (foun
     → bytes_of_all more ≡ missing_of images (map serial_of (take (k + 1) disks))
 missing_more images disks k found more s below serial pushed so_far =
     let next : map serial_of (take (k + 1) disks) ≡ map serial_of (take k disks) ++ s.0 ∷ [] =
-        ap (map serial_of) (take_more disks k [] below) ∙ map-append serial_of (take k disks) (get_or disks k [] ∷ [])
-        ∙ ap (λ (x : List ℕ). map serial_of (take k disks) ++ x ∷ []) (sym serial) in
+    ap (map serial_of) (take_more disks k [] below) ∙ map-append serial_of (take k disks) (get_or disks k [] ∷ [])
+    ∙ ap (λ (x : List ℕ). map serial_of (take k disks) ++ x ∷ []) (sym serial) in
     ap bytes_of_all pushed ∙ one_more images found s ∙ ap (λ (x : List (List ℕ)). x ++ missing_of images (s.0 ∷ [])) so_far
     ∙ sym (ap (missing_of images) next ∙ filter-append (λ (x : List ℕ). not (is_there images x)) (map serial_of (take k disks)) (s.0 ∷ []))
 

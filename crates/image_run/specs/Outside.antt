@@ -1,7 +1,6 @@
 -- What the outside tells: bytes that were written, and the bank that a shelf holds.
 use Rattle.std.specs.Prelude.{◌≡◌, ◌≢◌, ℕ, ◌≤◌, Bool, true, List, [], ◌∷◌, ◌++◌, length, take, All, Option, Some, IfSome, ⊤}
 use Rattle.std.specs.List.{AllByRecursion}
-use Rattle.std.specs.Option.{IsSomeAnd}
 use Rattle.imsm_base.specs.declared.units.Sector.{Sector}
 use Rattle.imsm_base.specs.declared.units.Serial.{Serial}
 use Rattle.device_log.specs.Log.{Call, What, Read, Write, Sync}

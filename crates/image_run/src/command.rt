@@ -66,7 +66,12 @@ fn assemble<B: Bank, K: Sink>(alloc: Global, bank: &mut B, sink: &mut K) -> Stat
 }
 
 /// Opens the images, and prints what is said of them.
-fn run<H: Shelf, K: Sink>(alloc: Global, images: &[ImageArg<'_>], shelf: &mut H, sink: &mut K) -> Status
+fn run<H: Shelf, K: Sink>(
+    alloc: Global,
+    images: &[ImageArg<'_>],
+    shelf: &mut H,
+    sink: &mut K,
+) -> Status
     requires unused { IsSomeAnd (H.held shelf.old) (IsUnused H.Held.serials H.Held.log) }
     requires named { AreImages (words_of images.now) }
     ensures reads { IsSomeAnd (H.held shelf.new) (HasOnlyReads H.Held.log) }
@@ -93,7 +98,12 @@ fn run<H: Shelf, K: Sink>(alloc: Global, images: &[ImageArg<'_>], shelf: &mut H,
 /// The words are `assemble` and 1 to 16 words NAME=FILE. The status is 0 where the volume starts, 1 where the words are
 /// others, 2 where a disk of the container is absent, 6 where a line couldn't be written, 7 where an image couldn't be
 /// opened, 9 without memory, and 14 where an image isn't of the form that is started today.
-pub fn image_still<H: Shelf, K: Sink>(alloc: Global, words: &[String], shelf: &mut H, sink: &mut K) -> Status
+pub fn image_still<H: Shelf, K: Sink>(
+    alloc: Global,
+    words: &[String],
+    shelf: &mut H,
+    sink: &mut K,
+) -> Status
     requires unused { IsSomeAnd (H.held shelf.old) (IsUnused H.Held.serials H.Held.log) }
 
     // No disk is written or synced, whatever the status.
@@ -119,7 +129,12 @@ pub fn image_still<H: Shelf, K: Sink>(alloc: Global, words: &[String], shelf: &m
 }
 
 /// Runs a command. All of them wait for nobody today.
-pub fn image_main<H: Shelf, K: Sink>(alloc: Global, words: &[String], shelf: &mut H, sink: &mut K) -> Status
+pub fn image_main<H: Shelf, K: Sink>(
+    alloc: Global,
+    words: &[String],
+    shelf: &mut H,
+    sink: &mut K,
+) -> Status
     requires unused { IsSomeAnd (H.held shelf.old) (IsUnused H.Held.serials H.Held.log) }
 
     // No disk is written or synced, whatever the status.

@@ -22,7 +22,11 @@ pub enum OpenFault {
 }
 
 /// Opens images in their order.
-pub fn open_all<H: Shelf>(alloc: Global, images: &[ImageArg<'_>], shelf: &mut H) -> Result<(), OpenFault>
+pub fn open_all<H: Shelf>(
+    alloc: Global,
+    images: &[ImageArg<'_>],
+    shelf: &mut H,
+) -> Result<(), OpenFault>
     requires unused { IsSomeAnd (H.held shelf.old) (IsUnused H.Held.serials H.Held.log) }
     requires few { length images.now ≤ MAX_DISKS }
     requires each { AllByRecursion IsImageWord (words_of images.now) }

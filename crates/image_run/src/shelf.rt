@@ -59,7 +59,12 @@ fn find_at<'a>(files: &'a [MemFile], name: &str, fails: &[u64], number: u64) -> 
 }
 
 /// One more disk of a bank, a copy of these sectors. Without memory nothing changes.
-fn add(alloc: Global, bank: &mut MemBank, serial: Serial, sectors: &[Sector]) -> Result<(), BankFault>
+fn add(
+    alloc: Global,
+    bank: &mut MemBank,
+    serial: Serial,
+    sectors: &[Sector],
+) -> Result<(), BankFault>
     requires few { length bank.old.serials < MAX_DISKS }
     requires distinct { IsNew serial bank.old.serials }
     ensures ok { OnOk result (bank.new ≡ with_sectors serial sectors.now bank.old) }
@@ -70,7 +75,12 @@ fn add(alloc: Global, bank: &mut MemBank, serial: Serial, sectors: &[Sector]) ->
 }
 
 /// The same of a bank that isn't lent, and the number of the disk.
-fn add_to(alloc: Global, bank: &mut Option<MemBank>, serial: Serial, sectors: &[Sector]) -> Result<DiskNo, ShelfFault>
+fn add_to(
+    alloc: Global,
+    bank: &mut Option<MemBank>,
+    serial: Serial,
+    sectors: &[Sector],
+) -> Result<DiskNo, ShelfFault>
     requires held { IsSome bank.old }
     requires few { IfSome bank.old (λ b. length b.serials < MAX_DISKS) }
     requires distinct { IfSome bank.old (λ b. IsNew serial b.serials) }
@@ -101,7 +111,9 @@ impl MemShelf {
     ) -> Result<MemShelf, MemFault>
         ensures { IfOk result (λ s. s ≡ record { files = files.items; bank = Some (opened [] device.items room); fails = fails.items; opens = 0; faults = 0 }) }
     {
-        let bank = MemBank::new(alloc, Vec::new(alloc), device, room).map_err(|_| MemFault::Memory)?;
+        let bank = MemBank::new(alloc, Vec::new(alloc), device, room).map_err(
+            |_| MemFault::Memory,
+        )?;
         Ok(MemShelf {
             files,
             bank: Some(bank),

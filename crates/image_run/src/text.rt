@@ -12,7 +12,11 @@ fn digit(value: u8) -> u8
     requires { value < 16 }
     ensures { result ≡ hex_digit value }
 {
-    if value < 10 { b'0' + value } else { b'a' - 10 + value }
+    if value < 10 {
+        b'0' + value
+    } else {
+        b'a' - 10 + value
+    }
 }
 
 fn push_hex_byte(out: &mut Vec<u8>, byte: u8) -> Result<(), AllocError>
@@ -94,7 +98,12 @@ fn push_serial(out: &mut Vec<u8>, serial: &Serial) -> Result<(), AllocError>
     }
 }
 
-fn push_family(alloc: Global, out: &mut Vec<u8>, family: u32, generation: u32) -> Result<(), AllocError>
+fn push_family(
+    alloc: Global,
+    out: &mut Vec<u8>,
+    family: u32,
+    generation: u32,
+) -> Result<(), AllocError>
     ensures { OnOk result (out.new.items ≡ out.old.items ++ family_line family generation) }
 {
     out.extend_from_slice(b"family ")?;
@@ -150,7 +159,13 @@ fn push_all_members(out: &mut Vec<u8>, serials: &[Serial]) -> Result<(), AllocEr
     Ok(())
 }
 
-fn push_started(alloc: Global, out: &mut Vec<u8>, family: u32, generation: u32, present: &[Serial]) -> Result<(), AllocError>
+fn push_started(
+    alloc: Global,
+    out: &mut Vec<u8>,
+    family: u32,
+    generation: u32,
+    present: &[Serial],
+) -> Result<(), AllocError>
     ensures { OnOk result (out.new.items ≡ out.old.items ++ started_text family generation present.now) }
 {
     push_family(alloc, out, family, generation)?;
@@ -159,7 +174,13 @@ fn push_started(alloc: Global, out: &mut Vec<u8>, family: u32, generation: u32, 
     Ok(())
 }
 
-fn push_waiting(alloc: Global, out: &mut Vec<u8>, family: u32, generation: u32, missing: &[Serial]) -> Result<(), AllocError>
+fn push_waiting(
+    alloc: Global,
+    out: &mut Vec<u8>,
+    family: u32,
+    generation: u32,
+    missing: &[Serial],
+) -> Result<(), AllocError>
     ensures { OnOk result (out.new.items ≡ out.old.items ++ waiting_text family generation missing.now) }
 {
     push_family(alloc, out, family, generation)?;

@@ -25,5 +25,5 @@ returns-in_err-push-clause-reads g c =
     let after = c.read_image.new.bank in
     reads_of (B.serials c.args.bank.now) (B.sizes c.args.bank.now) (B.opening after) (B.log after) _ _
     (are_read_next (B.serials c.args.bank.now) (B.serials before) (B.sizes c.args.bank.now) (B.sizes before) (B.opening before) (B.opening after) (B.log before) (B.log after)
-          c.loop-d.d c.loop-d.images.items (c.loop-d.images.items ++ c.read_image.result ∷ []) c.read_image.result c.loop-d.invariant.read c.loop-d.invariant.serials c.loop-d.invariant.sizes
-          c.read_image.ensures.opening c.read_image.ensures.logs c.read_image.ensures.gives c.read_image.ensures.small c.read_image.ensures.serial c.read_image.ensures.sectors refl)
+    c.loop-d.d c.loop-d.images.items (c.loop-d.images.items ++ c.read_image.result ∷ []) c.read_image.result c.loop-d.invariant.read c.loop-d.invariant.serials c.loop-d.invariant.sizes
+    c.read_image.ensures.opening c.read_image.ensures.logs c.read_image.ensures.gives c.read_image.ensures.small c.read_image.ensures.serial c.read_image.ensures.sectors refl)

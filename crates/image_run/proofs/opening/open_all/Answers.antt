@@ -1,4 +1,4 @@
-use Rattle.std.proofs.Common.{◌≤◌, arith}
+use Rattle.std.proofs.Common.{arith}
 use Rattle.image_run.proofs.Opened.{short_name, arg_at, is_new, one_more_held}
 use Rattle.image_run.proofs.opening.open_all.Goals as goal
 

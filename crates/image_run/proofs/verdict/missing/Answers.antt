@@ -1,6 +1,5 @@
-use Rattle.std.proofs.Common.{◌<◌, ◌≡◌, ℕ, length, sym, subst, arith}
+use Rattle.std.proofs.Common.{◌<◌, ◌≡◌, length, arith}
 use Rattle.imsm_base.specs.Layout.{disk_count_of}
-use Rattle.imsm_base.specs.Parts.{block_in}
 use Rattle.imsm_codec.specs.Mpb.{block_bytes, block_of}
 use Rattle.image_run.proofs.Tables.{all_missing, count_more, missing_more, table_count}
 use Rattle.image_run.proofs.verdict.missing.Goals as goal

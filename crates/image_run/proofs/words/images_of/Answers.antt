@@ -1,5 +1,5 @@
-use Rattle.std.proofs.Common.{◌≡◌, ◌<◌, ◌∙◌, ℕ, List, [], length, map, get_or, sym, ap, arith, subst, String}
-use Rattle.std.specs.Prelude.{IfNone, Option, None, string_bytes}
+use Rattle.std.proofs.Common.{◌≡◌, ◌<◌, ◌∙◌, ℕ, List, [], length, map, get_or, sym, ap, subst, String}
+use Rattle.std.specs.Prelude.{string_bytes}
 use Rattle.std.specs.declared.alloc.Global.{Global}
 use Rattle.std.specs.List.{AllByRecursion}
 use Rattle.std.proofs.lemmas.List.{get_or-map, length-map}
@@ -13,8 +13,8 @@ returns-in_err-image_of-clause-none c =
     let k = c.loop-word.word-index in
     let words = c.args.words.now in
     let refused : (ws : List ImageWord) → AllByRecursion IsImageWord ws → texts words ≡ map spelled ws → ⊥ = λ ws each same.
-        let within : k < length (map spelled ws) = subst (λ (l : List (List ℕ)). k < length l) same (rw length-map c.loop-word-test.true) in
-        let at = word_at ws k [] each within in
-        let here : get_or (texts words) k [] ≡ string_bytes c.word-item.result = get_or-map (λ (w : String Global). string_bytes w) words k c.word-item.result [] c.loop-word-test.true ∙ ap (λ (w : String Global). string_bytes w) (sym c.word-item.is) in
-        c.in_err-image_of.ensures.none at.0 at.1 (c.as_str.ensures.value ∙ sym here ∙ ap (λ (l : List (List ℕ)). get_or l k []) same ∙ at.2) in
+    let within : k < length (map spelled ws) = subst (λ (l : List (List ℕ)). k < length l) same (rw length-map c.loop-word-test.true) in
+    let at = word_at ws k [] each within in
+    let here : get_or (texts words) k [] ≡ string_bytes c.word-item.result = get_or-map (λ (w : String Global). string_bytes w) words k c.word-item.result [] c.loop-word-test.true ∙ ap (λ (w : String Global). string_bytes w) (sym c.word-item.is) in
+    c.in_err-image_of.ensures.none at.0 at.1 (c.as_str.ensures.value ∙ sym here ∙ ap (λ (l : List (List ℕ)). get_or l k []) same ∙ at.2) in
     rw c.from_residual.ensures refused

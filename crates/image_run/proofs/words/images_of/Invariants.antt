@@ -1,6 +1,5 @@
 use Rattle.std.proofs.Common.{◌≡◌, length, map, take}
 use Rattle.std.specs.List.{AllByRecursion}
-use Rattle.arrayvec.specs.ArrayVec.{array_vec_len}
 use Rattle.image_run.specs.Words.{IsImageWord, spelled, texts}
 use Rattle.image_run.specs.Args.{words_of}
 use Rattle.image_run.proofs.words.images_of.Given as goal

@@ -1,4 +1,4 @@
-use Rattle.std.proofs.Common.{◌≡◌, ◌<◌, None, Some, lit<}
+use Rattle.std.proofs.Common.{None, Some, lit<}
 use Rattle.std.proofs.lemmas.Str.Pattern.{split_after}
 use Rattle.image_run.proofs.Names.{no_equals, same_word}
 use Rattle.image_run.proofs.words.parts.Goals as goal

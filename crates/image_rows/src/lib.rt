@@ -1,0 +1,7 @@
+//! Worked rows of the commands, over images in memory.
+#![tactic(auto)]
+
+#[cfg(test)]
+mod assemble;
+#[cfg(test)]
+mod images;
