@@ -4,10 +4,15 @@ use image_run::{MemFile, Status};
 use std::alloc::Global;
 use std::test::Fail;
 
-const STARTED: &str = "family 6d257059 generation 1\nvolume 0 started\ndisk A member\ndisk B member\n";
+const STARTED: &str =
+    "family 6d257059 generation 1\nvolume 0 started\ndisk A member\ndisk B member\n";
 
 fn pair(alloc: Global) -> Result<Vec<MemFile>, Fail> {
-    Ok(vec![in alloc; member(alloc, "a", &[])?, member(alloc, "b", &[])?, blank(alloc, "x", 4096)?]?)
+    Ok(vec![in alloc;
+        member(alloc, "a", &[])?,
+        member(alloc, "b", &[])?,
+        blank(alloc, "x", 4096)?,
+    ]?)
 }
 
 #[test]
@@ -20,7 +25,11 @@ fn prints_the_verdict(rt: HostRuntime) -> Result<(), Fail> {
             0,
             "family 6d257059 generation 1\nvolume 0 started\ndisk B member\ndisk A member\n",
         ),
-        (&["assemble", "A=a"], 2, "family 6d257059 generation 1\nwaiting B absent\n"),
+        (
+            &["assemble", "A=a"],
+            2,
+            "family 6d257059 generation 1\nwaiting B absent\n",
+        ),
         (&["assemble", "A=a", "X=x"], 14, "unbuilt X\n"),
         (&["assemble", "X=x", "A=a"], 14, "unbuilt X\n"),
         (&["assemble", "C=a", "B=b"], 14, "unbuilt C\n"),
@@ -50,8 +59,8 @@ fn refuses_other_words(rt: HostRuntime) -> Result<(), Fail> {
         &["assemble", "ABCDEFGHIJKLMNOPQ=a"],
         &["assemble", "--run", "A=a"],
         &[
-            "assemble", "A=1", "B=2", "C=3", "D=4", "E=5", "F=6", "G=7", "H=8", "I=9", "J=10", "K=11", "L=12", "M=13",
-            "N=14", "O=15", "P=16", "Q=17",
+            "assemble", "A=1", "B=2", "C=3", "D=4", "E=5", "F=6", "G=7", "H=8", "I=9", "J=10",
+            "K=11", "L=12", "M=13", "N=14", "O=15", "P=16", "Q=17",
         ],
     ];
     for words in rows {
@@ -68,11 +77,46 @@ fn says_which_part_failed(rt: HostRuntime) -> Result<(), Fail> {
     let words: &[&'static str] = &["assemble", "A=a", "B=b"];
     let of = || Case::of(words);
     let rows: [(Case<'_>, u8, &str); 6] = [
-        (Case { opens: &[1], ..of() }, 7, "open A\n"),
-        (Case { opens: &[2], ..of() }, 7, "open B\n"),
-        (Case { calls: &[1], ..of() }, 14, "unbuilt A\n"),
-        (Case { calls: &[2], ..of() }, 14, "unbuilt B\n"),
-        (Case { writes: &[1], ..of() }, 6, ""),
+        (
+            Case {
+                opens: &[1],
+                ..of()
+            },
+            7,
+            "open A\n",
+        ),
+        (
+            Case {
+                opens: &[2],
+                ..of()
+            },
+            7,
+            "open B\n",
+        ),
+        (
+            Case {
+                calls: &[1],
+                ..of()
+            },
+            14,
+            "unbuilt A\n",
+        ),
+        (
+            Case {
+                calls: &[2],
+                ..of()
+            },
+            14,
+            "unbuilt B\n",
+        ),
+        (
+            Case {
+                writes: &[1],
+                ..of()
+            },
+            6,
+            "",
+        ),
         (Case { room: 7, ..of() }, 6, "family "),
     ];
     for (case, status, lines) in rows {
@@ -91,7 +135,15 @@ fn reads_changed_blocks(rt: HostRuntime) -> Result<(), Fail> {
     let rows: [(&[(usize, u8)], u8, &str); 6] = [
         // serial "B" becomes "B \\\x01"
         (
-            &[(265, 0x20), (266, 0x5c), (267, 0x01), (32, 0x0b), (33, 0x71), (34, 0xcc), (35, 0x48)],
+            &[
+                (265, 0x20),
+                (266, 0x5c),
+                (267, 0x01),
+                (32, 0x0b),
+                (33, 0x71),
+                (34, 0xcc),
+                (35, 0x48),
+            ],
             2,
             "family 6d257059 generation 1\nwaiting B\\x20\\x5c\\x01 absent\n",
         ),
@@ -103,7 +155,16 @@ fn reads_changed_blocks(rt: HostRuntime) -> Result<(), Fail> {
         ),
         // generation 4,278,190,079, the last that starts
         (
-            &[(44, 0xff), (45, 0xff), (46, 0xff), (47, 0xfe), (32, 0x09), (33, 0x51), (34, 0x70), (35, 0x46)],
+            &[
+                (44, 0xff),
+                (45, 0xff),
+                (46, 0xff),
+                (47, 0xfe),
+                (32, 0x09),
+                (33, 0x51),
+                (34, 0x70),
+                (35, 0x46),
+            ],
             2,
             "family 6d257059 generation 4278190079\nwaiting B absent\n",
         ),

@@ -93,9 +93,15 @@ impl<'a> Case<'a> {
         }
         let mut device = Vec::new(alloc);
         for call in self.calls {
-            device.push(FailAt { call: *call, kept: 0 })?;
+            device.push(FailAt {
+                call: *call,
+                kept: 0,
+            })?;
         }
-        let room = LogRoom { calls: 16, sectors: 0 };
+        let room = LogRoom {
+            calls: 16,
+            sectors: 0,
+        };
         let mut shelf = MemShelf::new(alloc, files, self.opens.to_vec(alloc)?, device, room)?;
         let mut sink = MemSink::new(alloc, self.writes.to_vec(alloc)?, self.room)?;
         let status = image_main(alloc, words.as_slice(), &mut shelf, &mut sink);
