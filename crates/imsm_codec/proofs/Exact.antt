@@ -8,8 +8,9 @@ use Rattle.imsm_base.specs.Whole.{IsSize}
 use Rattle.imsm_base.specs.Parts.{volumes_in, behind_disks, behind_volumes, block_in}
 use Rattle.imsm_base.proofs.Apart.{length-volumes_in}
 use Rattle.imsm_base.proofs.At.{place_of, place_of-below}
-use Rattle.imsm_codec.specs.Given.{given_block}
-use Rattle.imsm_codec.specs.Checked.{IsSigned, IsSized, IsGiven, IsSummed, IsTabled, IsDistinct, IsFilled, IsChecked, HasRoomFor, HasNoTwins, AreFirstTwins, are_twins_at, HasFrontFault, HasBlockFault}
+use Rattle.imsm_codec.specs.Given.{given_block, IsSigned, IsSized, IsGiven}
+use Rattle.imsm_codec.specs.Table.{IsSummed, IsTabled, HasNoTwins, AreFirstTwins, are_twins_at}
+use Rattle.imsm_codec.specs.Checked.{IsDistinct, IsFilled, IsChecked, HasRoomFor, HasFrontFault, HasBlockFault}
 use Rattle.imsm_codec.specs.Faults.{HasTwins, EndsPast, HasBadTail, HasFault}
 use Rattle.imsm_codec.specs.declared.fault.MpbFault.{MpbFault}
 use Rattle.imsm_codec.specs.declared.fault.MpbFault.TheVariants.{Short, Signature, Size, Cut, Checksum, Counts, Serials, Volume as VolumeFault, BadBlocks}

@@ -6,8 +6,9 @@ use Rattle.imsm_base.specs.Fields.{number_at}
 use Rattle.imsm_base.specs.Whole.{IsWhole, IsSize}
 use Rattle.imsm_base.specs.Parts.{behind_disks, block_in}
 use Rattle.imsm_base.proofs.At.{place_of-below}
-use Rattle.imsm_codec.specs.Given.{given_block}
-use Rattle.imsm_codec.specs.Checked.{IsGiven, IsChecked, HasFrontFault, HasBlockFault, are_twins_at}
+use Rattle.imsm_codec.specs.Given.{given_block, IsGiven}
+use Rattle.imsm_codec.specs.Table.{are_twins_at}
+use Rattle.imsm_codec.specs.Checked.{IsChecked, HasFrontFault, HasBlockFault}
 use Rattle.imsm_codec.specs.declared.fault.MpbFault.{MpbFault}
 use Rattle.imsm_codec.specs.declared.fault.MpbFault.TheVariants.{Short, Signature, Size, Cut, Checksum, Counts, Serials, Volume, BadBlocks}
 use Rattle.imsm_codec.proofs.Wholeness.{checks_from_whole}

@@ -10,7 +10,8 @@ use Rattle.imsm_base.proofs.Cut.{length-part, cut_at-lengths, cut_at-joins}
 use Rattle.imsm_base.proofs.Joined.{disks_in-joined, length-disks_bytes, volumes_in-joined, length-volumes_bytes, volume_in-joined, length-volume_bytes}
 use Rattle.imsm_base.proofs.Apart.{disks_in-lengths, length-disks_in, disks_in-joins, volumes_in-are, volumes_in-joins, volume_in-is, volume_in-joins}
 use Rattle.imsm_base.proofs.At.{place_of}
-use Rattle.imsm_codec.specs.Checked.{HasTable, HasTail, HasRoomFor}
+use Rattle.imsm_codec.specs.Table.{HasTable}
+use Rattle.imsm_codec.specs.Checked.{HasTail, HasRoomFor}
 use Rattle.imsm_codec.specs.Faults.{Begins}
 use Rattle.imsm_codec.proofs.Places.{ends, left}
 

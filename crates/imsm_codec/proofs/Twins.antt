@@ -8,7 +8,7 @@ use Rattle.std.proofs.lemmas.Slice.Eq.{bytes_eq-Decides}
 use Rattle.imsm_base.specs.Fields.{Part}
 use Rattle.imsm_base.specs.Layout.{serial_of}
 use Rattle.imsm_base.specs.Whole.{is_expected, AreApart}
-use Rattle.imsm_codec.specs.Checked.{are_twins, HasNoTwins}
+use Rattle.imsm_codec.specs.Table.{are_twins, HasNoTwins}
 
 abbrev serials : List Part → List (List ℕ)
 serials ds = map serial_of (filter is_expected ds)

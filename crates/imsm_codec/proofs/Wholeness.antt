@@ -7,9 +7,9 @@ use Rattle.imsm_base.specs.Whole.{IsWholeBlock, IsWhole, IsSize, the_signature}
 use Rattle.imsm_base.specs.Parts.{block_in, room_of, behind_disks, behind_volumes, volumes_in, volumes_room}
 use Rattle.imsm_base.proofs.Joined.{block_in-spelled, room_of-spelled}
 use Rattle.imsm_base.proofs.Apart.{spells_apart}
-use Rattle.imsm_codec.specs.Given.{size_in, given_block}
+use Rattle.imsm_codec.specs.Given.{size_in, given_block, IsGiven}
 use Rattle.imsm_codec.specs.Laid.{IsLaid}
-use Rattle.imsm_codec.specs.Checked.{IsGiven, IsChecked}
+use Rattle.imsm_codec.specs.Checked.{IsChecked}
 use Rattle.imsm_codec.proofs.Twins.{apart_from_no_twins, no_twins_from_apart}
 
 -- a field inside the first n bytes

@@ -6,8 +6,8 @@ use Rattle.imsm_base.specs.declared.bounds.TheConstants.{HEADER_BYTES}
 use Rattle.imsm_base.specs.Fields.{Part, number_at}
 use Rattle.imsm_base.specs.Layout.{Volume, IsVolume, HasLengths, header_lengths, disk_lengths, volume_bytes}
 use Rattle.imsm_base.specs.Whole.{the_signature, block_sum, IsSize, IsAcceptedTail}
-use Rattle.imsm_codec.specs.Given.{size_in, given_block}
-use Rattle.imsm_codec.specs.Checked.{IsSigned, IsSized, IsGiven, IsSummed, HasTable, IsTabled, HasNoTwins, AreFirstTwins}
+use Rattle.imsm_codec.specs.Given.{size_in, given_block, IsSigned, IsSized, IsGiven}
+use Rattle.imsm_codec.specs.Table.{IsSummed, HasTable, IsTabled, HasNoTwins, AreFirstTwins}
 use Rattle.imsm_codec.specs.declared.fault.MpbFault.{MpbFault}
 use Rattle.imsm_codec.specs.declared.fault.MpbFault.TheVariants.{Short, Signature, Size, Cut, Checksum, Counts, Serials, Volume as VolumeFault, BadBlocks}
 

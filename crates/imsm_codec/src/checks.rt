@@ -1,8 +1,9 @@
 //! The check of a metadata block's bytes: each step, in order.
 ghost use Rattle.std.specs.Prelude.{◌≡◌, ◌≢◌, ◌+◌, ◌*◌, ◌<◌, ◌≤◌, ◌↔◌, ℕ, length, take, drop, MatchResult, IsOk, IfOk, IsErrOf, IsTrue};
 ghost use Rattle.imsm_base.specs.Whole.{block_sum, IsSize, AreCounts, IsWhole, IsWholeBlock};
-ghost use Rattle.imsm_codec.specs.Given.{size_in, given_block};
-ghost use Rattle.imsm_codec.specs.Checked.{IsSigned, IsSized, IsGiven, IsSummed, IsTabled, IsChecked, HasFrontFault, HasBlockFault};
+ghost use Rattle.imsm_codec.specs.Given.{size_in, given_block, IsSigned, IsSized, IsGiven};
+ghost use Rattle.imsm_codec.specs.Table.{IsSummed, IsTabled};
+ghost use Rattle.imsm_codec.specs.Checked.{IsChecked, HasFrontFault, HasBlockFault};
 ghost use Rattle.imsm_codec.specs.Faults.{HasFault};
 ghost use Rattle.imsm_codec.specs.declared.fault.MpbFault.{MpbFault as Fault};
 ghost use Rattle.imsm_codec.specs.Mpb.{block_bytes, block_of};
@@ -130,7 +131,8 @@ fn check_parts(bytes: &[u8]) -> Result<(), MpbFault>
     check_tail(bytes, rest)
 }
 
-/// The metadata block that bytes begin with. Takes no memory.
+/// The metadata block that bytes begin with; bytes behind it are not looked at. Takes no memory. An error is the first
+/// condition of `MpbFault`, in the order in which they stand there, that fails.
 pub fn check(bytes: &[u8]) -> Result<MpbRef<'_>, MpbFault>
     // What is read is the block that the header speaks of, and it is whole.
     ensures bytes { IfOk result (λ mpb. block_bytes mpb ≡ given_block bytes.now) }

@@ -4,7 +4,8 @@ ghost use Rattle.imsm_base.specs.Fields.{number_at};
 ghost use Rattle.imsm_base.specs.Layout.{disk_lengths};
 ghost use Rattle.imsm_base.specs.Whole.{is_expected};
 ghost use Rattle.imsm_base.specs.Parts.{cut_at, block_in};
-ghost use Rattle.imsm_codec.specs.Checked.{are_twins, are_twins_at, IsTabled, IsDistinct, HasBlockFault};
+ghost use Rattle.imsm_codec.specs.Table.{are_twins, are_twins_at, IsTabled};
+ghost use Rattle.imsm_codec.specs.Checked.{IsDistinct, HasBlockFault};
 ghost use Rattle.imsm_codec.specs.Mpb.{disk_at};
 
 use crate::bytes::{behind, get_u8};

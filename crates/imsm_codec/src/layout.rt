@@ -39,7 +39,7 @@ pub(crate) fn volume_len(bytes: &[u8]) -> usize
 
 /// The bytes behind the disk table.
 pub(crate) fn volumes_at(bytes: &[u8]) -> &[u8]
-    requires { 216 ≤ length bytes.now }
+    requires { HEADER_BYTES ≤ length bytes.now }
     ensures { result.now ≡ behind_disks bytes.now }
 {
     behind(
@@ -50,7 +50,7 @@ pub(crate) fn volumes_at(bytes: &[u8]) -> &[u8]
 
 /// The bytes behind the volumes.
 pub(crate) fn check_volumes(bytes: &[u8]) -> Result<&[u8], MpbFault>
-    requires header { 216 ≤ length bytes.now }
+    requires header { HEADER_BYTES ≤ length bytes.now }
     requires distinct { IsDistinct bytes.now }
     ensures { MatchResult result (λ rest. (rest.now ≡ behind_volumes bytes.now) × IsFilled bytes.now) (λ e. HasBlockFault bytes.now e) }
 {

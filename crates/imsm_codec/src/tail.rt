@@ -7,7 +7,7 @@ ghost use Rattle.imsm_codec.specs.Checked.{IsFilled, IsChecked, HasBlockFault};
 
 use crate::bytes::behind;
 use crate::fault::MpbFault;
-use imsm_base::get_u32;
+use imsm_base::{HEADER_BYTES, get_u32};
 
 /// The mark of a bad-block log (`BBM_LOG_SIGNATURE`).
 const LOG_MARK: u32 = 0xABAD_B10C;
@@ -25,7 +25,7 @@ fn is_accepted(tail: &[u8]) -> bool
 /// Whether the tail lies behind the volumes, of which `rest` has the bytes, and is of an accepted form.
 #[tactic(auto, unfolding(imsm_base::specs::Parts::block_in))]
 pub(crate) fn check_tail(bytes: &[u8], rest: &[u8]) -> Result<(), MpbFault>
-    requires header { 216 ≤ length bytes.now }
+    requires header { HEADER_BYTES ≤ length bytes.now }
     requires filled { IsFilled bytes.now }
     requires rest { rest.now ≡ behind_volumes bytes.now }
     ensures { MatchResult result (λ _. IsChecked bytes.now) (λ e. HasBlockFault bytes.now e) }

@@ -3,7 +3,7 @@ use Rattle.std.proofs.lemmas.Bool.{cases_lt}
 use Rattle.imsm_base.specs.Fields.{Part}
 use Rattle.imsm_base.specs.Parts.{block_in}
 use Rattle.imsm_base.proofs.Apart.{length-disks}
-use Rattle.imsm_codec.specs.Checked.{are_twins_at}
+use Rattle.imsm_codec.specs.Table.{are_twins_at}
 use Rattle.imsm_codec.proofs.disk.check_serials.Goals as goal
 
 pub loop-i-preserved : goal.loop-i-preserved
