@@ -4,4 +4,5 @@ pub mod Args
 pub mod Images
 pub mod Text
 pub mod Reports
+pub mod Endings
 pub mod Memory

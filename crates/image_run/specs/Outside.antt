@@ -41,3 +41,8 @@ pub record HasOneMore {B : Type 0} (serials : B → List Serial) (opening : B �
 pub record IsUnused {B : Type 0} (serials : B → List Serial) (log : B → Option (List Call)) (bank : B) : Type 0 where
   pub empty : serials bank ≡ []
   pub fresh : IfSome (log bank) (λ l. l ≡ [])
+
+-- a bank of these disks, which made no call
+pub record HoldsFresh {B : Type 0} (serials : B → List Serial) (log : B → Option (List Call)) (names : List Serial) (bank : B) : Type 0 where
+  pub named : serials bank ≡ names
+  pub fresh : IfSome (log bank) (λ l. l ≡ [])

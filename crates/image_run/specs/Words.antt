@@ -3,6 +3,7 @@ use Rattle.std.specs.Prelude.{◌≡◌, ℕ, ◌-◌, ◌≤◌, ◌==◌, ◌&
 use Rattle.std.specs.Str.{bytes_eq}
 use Rattle.std.specs.declared.alloc.Global.{Global}
 use Rattle.std.specs.List.{AllByRecursion, list_all}
+use Rattle.imsm_base.specs.declared.units.Serial.{Serial}
 use Rattle.imsm_base.specs.declared.bounds.TheConstants.{MAX_DISKS, SERIAL_BYTES}
 
 -- a word NAME=FILE
@@ -59,3 +60,10 @@ IsCommand words = (images : List ImageWord) × IsAssemble words images
 -- what is known of words as text
 abbrev pub texts : List (String Global) → List (List ℕ)
 texts words = map (λ w. string_bytes w) words
+
+-- the serial under which an image is opened
+abbrev pub serial_named : ImageWord → Serial
+serial_named w = record { 0 = padded_name w.name }
+
+abbrev pub serials_named : List ImageWord → List Serial
+serials_named images = map serial_named images

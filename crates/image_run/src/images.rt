@@ -8,7 +8,7 @@ ghost use Rattle.member_bank.specs.Told.{Keeps, Logs, LogsAll, Gives};
 ghost use Rattle.image_run.specs.Outside.{OnlyReads};
 ghost use Rattle.image_run.specs.Images.{anchor_calls, images_told};
 
-use imsm_base::{DiskNo, METADATA_SECTORS, Sector, Serial};
+use imsm_base::{DiskNo, MAX_DISKS, METADATA_SECTORS, Sector, Serial};
 use member_bank::Bank;
 use std::alloc::{AllocError, Global};
 
@@ -65,7 +65,8 @@ fn read_image<B: Bank>(bank: &mut B, d: DiskNo) -> ImageRead
 pub fn read_images<B: Bank>(alloc: Global, bank: &mut B) -> Result<Vec<ImageRead>, AllocError>
     requires { IfSome (B.log bank.old) (λ l. l ≡ []) }
     ensures reads { IfSome (B.log bank.new) OnlyReads }
-    ensures count { IfOk result (λ images. length images.items ≡ length (B.sizes bank.old)) }
+    ensures count { IfOk result (λ images. length images.items ≡ length (B.serials bank.old)) }
+    ensures few { IfOk result (λ images. length images.items ≤ MAX_DISKS) }
     ensures told { IfOk result (λ images. IfSome (B.opening bank.new) (λ opening. IfSome (B.log bank.new) (λ log.
         images.items ≡ images_told (B.serials bank.old) (B.sizes bank.old) opening log))) }
     ensures sizes { B.sizes bank.new ≡ B.sizes bank.old }

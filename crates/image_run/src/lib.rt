@@ -1,18 +1,23 @@
 //! A command over images: its words, what it does and what it prints.
 #![tactic(auto)]
 
+mod command;
 mod images;
 mod memory;
+mod opening;
 mod outside;
 mod report;
 mod shelf;
+mod status;
 mod text;
 mod verdict;
 mod words;
 
+pub use command::{image_main, image_still};
 pub use images::ImageRead;
 pub use memory::{MemFault, MemSink};
 pub use outside::{Shelf, ShelfFault, Sink, write_all};
 pub use report::Report;
 pub use shelf::{MemFile, MemShelf};
+pub use status::Status;
 pub use words::{ImageArg, image_of, parse};

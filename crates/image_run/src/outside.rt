@@ -80,6 +80,7 @@ pub trait Shelf {
 
 /// Writes all of a piece, in as many writes as the sink takes.
 pub fn write_all<K: Sink>(sink: &mut K, bytes: &[u8]) -> Result<(), Failed>
+    ensures all { OnOk result (Adds (K.written sink.old) (K.written sink.new) bytes.now) }
     ensures front { (count : ℕ) × AddsFront (K.written sink.old) (K.written sink.new) bytes.now (is_ok result) count }
     ensures later { K.faults_of sink.old ≤ K.faults_of sink.new }
     ensures failed { OnErr result (Rose (K.faults_of sink.old) (K.faults_of sink.new)) }

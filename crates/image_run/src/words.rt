@@ -2,7 +2,7 @@
 ghost use Rattle.std.specs.Prelude.{◌≡◌, ◌↔◌, ◌&&◌, nat_le, ℕ, ◌<◌, ◌≤◌, List, length, map, IsTrue, IsSome, IfSome, IfNone};
 ghost use Rattle.std.specs.List.{AllByRecursion, list_all};
 ghost use Rattle.std.specs.Option.{IsSomeAnd};
-ghost use Rattle.image_run.specs.Words.{ImageWord, IsImageWord, IsAssemble, IsCommand, are_distinct, assemble_word, is_apart_from, is_name, is_name_byte, padded_name, spelled, texts};
+ghost use Rattle.image_run.specs.Words.{ImageWord, IsImageWord, IsAssemble, IsCommand, are_distinct, assemble_word, is_apart_from, is_name, is_name_byte, serial_named, spelled, texts};
 ghost use Rattle.image_run.specs.Args.{word_of, words_of};
 
 use arrayvec::ArrayVec;
@@ -13,6 +13,18 @@ use imsm_base::{MAX_DISKS, SERIAL_BYTES, Serial};
 pub struct ImageArg<'a> {
     pub name: &'a str,
     pub file: &'a str,
+}
+
+impl ImageArg<'_> {
+    /// The serial under which the image is opened: its name, padded with zero bytes.
+    pub fn serial(&self) -> Serial
+        requires { length self.now.name.now ≤ SERIAL_BYTES }
+        ensures { result ≡ serial_named (word_of self.now) }
+    {
+        let mut bytes = [0; SERIAL_BYTES];
+        bytes[..self.name.len()].copy_from_slice(self.name.as_bytes());
+        Serial(bytes)
+    }
 }
 
 fn is_byte_of_name(byte: u8) -> bool

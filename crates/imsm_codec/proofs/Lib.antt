@@ -4,3 +4,5 @@ pub mod Faulty
 pub mod Places
 pub mod Found
 pub mod Mirror
+pub mod Laying
+pub mod Exact

@@ -1,5 +1,5 @@
 -- The words of a mirror without a pass: it has one map and two members, and its faults are those of a few tests.
-use Rattle.std.proofs.Common.{◌≡◌, ℕ, zero, suc, ◌+◌, ◌*◌, ◌^◌, ◌<◌, ◌≤◌, ◌==◌, ◌&&◌, ◌||◌, not, Bool, true, false, cond, if◌then◌else◌, List, [], ◌∷◌, length, map, take, get_or, Option, Some, None, refl, sym, ◌∙◌, ap, subst, arith}
+use Rattle.std.proofs.Common.{◌≡◌, ℕ, zero, suc, ◌+◌, ◌^◌, ◌<◌, ◌≤◌, ◌==◌, ◌&&◌, ◌||◌, not, Bool, true, false, cond, if◌then◌else◌, List, [], ◌∷◌, length, map, get_or, Option, Some, None, refl, sym, ◌∙◌, ap, subst, arith}
 use Rattle.std.specs.Prelude.{◌↔◌, find, is_none, nat_le, nat_lt, slice_get}
 use Rattle.std.specs.Option.{option_map, option_map_or}
 use Rattle.std.specs.List.{list_any, list_all, range_with_len}
@@ -11,8 +11,8 @@ use Rattle.imsm_base.specs.declared.units.Level.TheVariants.{One, Five, Ten}
 use Rattle.imsm_base.specs.declared.bounds.TheConstants.{METADATA_SECTORS, SECTOR_BYTES, FIRST_GENERATION_REFUSED}
 use Rattle.imsm_base.specs.Fields.{Part}
 use Rattle.imsm_base.specs.Layout.{total_blocks_of, size_of, tail_size_of, generation_of, Block, Volume, Map, volume_size_of, pba_of, blocks_per_member_of, strip_of, level_byte_of, member_count_of, map_state_of, disk_count_of, map_count_of, migration_state_of, migration_type_of, policy_of}
-use Rattle.imsm_base.specs.Volumes.{Member, Fault, blank_map, first_map, member, members, slots_of, order_at, is_level_one, volume_level, level_of, has_policy, has_pass, has_pass_of, has_migration, is_dirty, is_bad_slot, bad_slot, has_sectors, is_like, has_geometry, volume_rows, rows_of, overlaps, geometry_fault, volume_fault}
-use Rattle.imsm_base.specs.Volumes.Fault.{BadLevel, BadPolicy, BadMigration, BadIndex, BadGeometry, Overlaps}
+use Rattle.imsm_base.specs.Volumes.{Member, Fault, blank_map, first_map, member, members, slots_of, order_at, is_level_one, volume_level, has_policy, has_pass, has_migration, is_dirty, is_bad_slot, bad_slot, has_sectors, is_like, has_geometry, volume_rows, rows_of, overlaps, geometry_fault, volume_fault}
+use Rattle.imsm_base.specs.Volumes.Fault.{BadLevel, BadPolicy, BadMigration, BadGeometry, Overlaps}
 use Rattle.imsm_base.specs.FirstForm.{IsCleanMirror, IsFirstForm}
 use Rattle.imsm_base.specs.Whole.{is_expected}
 use Rattle.imsm_codec.specs.Mpb.{disk_at, volume_at, blank_volume}

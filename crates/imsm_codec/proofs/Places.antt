@@ -1,10 +1,10 @@
 -- Where the readers find a volume and a map.
-use Rattle.std.proofs.Common.{◌≡◌, ℕ, ◌+◌, ◌-◌, ◌*◌, ◌<◌, ◌≤◌, ◌==◌, if◌then◌else◌, Bool, true, false, List, [], length, map, take, drop, get_or, refl, sym, ◌∙◌, ap, subst, arith}
+use Rattle.std.proofs.Common.{◌≡◌, ℕ, ◌+◌, ◌-◌, ◌*◌, ◌<◌, ◌≤◌, ◌==◌, if◌then◌else◌, Bool, true, false, List, length, drop, sym, ◌∙◌, ap, subst, arith}
 use Rattle.std.proofs.lemmas.List.{drop-drop, length-drop}
-use Rattle.imsm_base.specs.Fields.{number, number_at}
+use Rattle.imsm_base.specs.Fields.{number_at}
 use Rattle.imsm_base.specs.Layout.{Volume, Map, map_count_of, member_count_of, migration_state_of}
 use Rattle.imsm_base.specs.Volumes.{blank_map, order_at}
-use Rattle.imsm_base.specs.Parts.{block_in, room_of, volume_in, volume_room, volumes_in, volumes_room, map_in, map_room, behind_disks}
+use Rattle.imsm_base.specs.Parts.{block_in, room_of, volume_in, volume_room, map_in, map_room, behind_disks}
 use Rattle.imsm_base.proofs.At.{place_of, place_of-more, volume_in-block, volumes_fit, map_place, maps_in-at, maps_fit, order_in-map}
 use Rattle.imsm_codec.specs.Laid.{IsLaid}
 use Rattle.imsm_codec.specs.Mpb.{volume_at, blank_volume, map_at}

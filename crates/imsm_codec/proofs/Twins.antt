@@ -1,5 +1,5 @@
 -- Expected serials are apart exactly where no two records are twins.
-use Rattle.std.proofs.Common.{◌≡◌, ◌≢◌, ℕ, zero, suc, ◌+◌, ◌<◌, ◌&&◌, Bool, true, false, cond, List, [], ◌∷◌, length, map, get_or, refl, sym, ◌∙◌, ap, subst, arith}
+use Rattle.std.proofs.Common.{◌≡◌, ◌≢◌, ℕ, zero, suc, ◌<◌, ◌&&◌, Bool, true, false, cond, List, [], ◌∷◌, length, map, get_or, refl, ◌∙◌, ap, arith}
 use Rattle.std.specs.Prelude.{filter}
 use Rattle.std.specs.List.{AllByRecursion}
 use Rattle.std.specs.Str.{bytes_eq}
@@ -8,7 +8,7 @@ use Rattle.std.proofs.lemmas.Slice.Eq.{bytes_eq-Decides}
 use Rattle.imsm_base.specs.Fields.{Part}
 use Rattle.imsm_base.specs.Layout.{serial_of}
 use Rattle.imsm_base.specs.Whole.{is_expected, AreApart}
-use Rattle.imsm_codec.specs.Checked.{are_twins, are_twins_at, HasNoTwins}
+use Rattle.imsm_codec.specs.Checked.{are_twins, HasNoTwins}
 
 abbrev serials : List Part → List (List ℕ)
 serials ds = map serial_of (filter is_expected ds)

@@ -1,15 +1,15 @@
 -- Bytes begin with a whole block exactly where each step of the check finds them right.
-use Rattle.std.proofs.Common.{◌≡◌, ◌≢◌, ℕ, ◌+◌, ◌*◌, ◌-◌, ◌<◌, ◌≤◌, ◌%◌, min, List, length, take, drop, refl, sym, ◌∙◌, ap, subst, arith}
+use Rattle.std.proofs.Common.{◌≡◌, ℕ, ◌+◌, ◌*◌, ◌-◌, ◌≤◌, min, List, length, take, drop, sym, ◌∙◌, ap, subst, arith}
 use Rattle.std.proofs.lemmas.List.{length-take, length-drop, take-take, drop-take, length-take-le}
 use Rattle.imsm_base.specs.Fields.{number, number_at}
-use Rattle.imsm_base.specs.Layout.{Block, Spells, IsBlock, size_of, checksum_of, signature_of, disk_count_of, volume_count_of}
-use Rattle.imsm_base.specs.Whole.{IsWholeBlock, IsWhole, IsSize, AreCounts, the_signature, AreApart, expected_serials, IsAcceptedTail, block_sum}
+use Rattle.imsm_base.specs.Layout.{Block}
+use Rattle.imsm_base.specs.Whole.{IsWholeBlock, IsWhole, IsSize, the_signature}
 use Rattle.imsm_base.specs.Parts.{block_in, room_of, behind_disks, behind_volumes, volumes_in, volumes_room}
 use Rattle.imsm_base.proofs.Joined.{block_in-spelled, room_of-spelled}
 use Rattle.imsm_base.proofs.Apart.{spells_apart}
 use Rattle.imsm_codec.specs.Given.{size_in, given_block}
 use Rattle.imsm_codec.specs.Laid.{IsLaid}
-use Rattle.imsm_codec.specs.Checked.{IsSigned, IsSized, IsGiven, IsSummed, HasTable, IsTabled, IsDistinct, IsFilled, IsChecked, HasTail, HasNoTwins}
+use Rattle.imsm_codec.specs.Checked.{IsGiven, IsChecked}
 use Rattle.imsm_codec.proofs.Twins.{apart_from_no_twins, no_twins_from_apart}
 
 -- a field inside the first n bytes

@@ -1,7 +1,7 @@
 -- What the steps of the check find, in their order. They speak of the parts as they are taken apart; `HasFault` says the
 -- same of any parts that are laid there.
 -- Source: load_imsm_mpb and parse_raid_devices of super-intel.c; the bounds are this project's own.
-use Rattle.std.specs.Prelude.{◌≡◌, ◌≢◌, ℕ, ◌+◌, ◌*◌, ◌-◌, ◌<◌, ◌≤◌, ◌&&◌, Bool, true, false, List, length, take, drop, slice_index_or, []}
+use Rattle.std.specs.Prelude.{◌≡◌, ◌≢◌, ℕ, ◌+◌, ◌*◌, ◌<◌, ◌≤◌, ◌&&◌, Bool, true, false, List, length, take, slice_index_or, []}
 use Rattle.std.specs.Str.{bytes_eq}
 use Rattle.imsm_base.specs.declared.bounds.TheConstants.{HEADER_BYTES}
 use Rattle.imsm_base.specs.Fields.{Part, number_at}

@@ -3,3 +3,4 @@ pub mod Mpb
 pub mod Given
 pub mod Checked
 pub mod Own
+pub mod Faults

@@ -1,8 +1,10 @@
 //! The check of a metadata block's bytes: each step, in order.
-ghost use Rattle.std.specs.Prelude.{◌≡◌, ◌≢◌, ◌+◌, ◌*◌, ◌<◌, ◌≤◌, ◌↔◌, ℕ, length, take, drop, MatchResult, IsOk, IfOk, IsTrue};
+ghost use Rattle.std.specs.Prelude.{◌≡◌, ◌≢◌, ◌+◌, ◌*◌, ◌<◌, ◌≤◌, ◌↔◌, ℕ, length, take, drop, MatchResult, IsOk, IfOk, IsErrOf, IsTrue};
 ghost use Rattle.imsm_base.specs.Whole.{block_sum, IsSize, AreCounts, IsWhole, IsWholeBlock};
 ghost use Rattle.imsm_codec.specs.Given.{size_in, given_block};
 ghost use Rattle.imsm_codec.specs.Checked.{IsSigned, IsSized, IsGiven, IsSummed, IsTabled, IsChecked, HasFrontFault, HasBlockFault};
+ghost use Rattle.imsm_codec.specs.Faults.{HasFault};
+ghost use Rattle.imsm_codec.specs.declared.fault.MpbFault.{MpbFault as Fault};
 ghost use Rattle.imsm_codec.specs.Mpb.{block_bytes, block_of};
 
 use crate::bytes::get_u8;
@@ -135,6 +137,8 @@ pub fn check(bytes: &[u8]) -> Result<MpbRef<'_>, MpbFault>
     ensures whole { IfOk result (λ mpb. IsWholeBlock (block_bytes mpb) (block_of mpb)) }
     // A whole block is read.
     ensures ok { IsOk result ↔ IsWhole (given_block bytes.now) }
+    // An error is exactly the first condition that fails.
+    ensures fault { (e : Fault) → IsErrOf result e ↔ HasFault bytes.now e }
 {
     check_front(bytes)?;
     let block = &bytes[..get_u32(bytes, 0x24) as usize];

@@ -1,11 +1,14 @@
-use Rattle.std.proofs.Common.{◌≡◌, ℕ, take, sym, ◌∙◌, ap, subst, List, refl}
-use Rattle.imsm_base.specs.Whole.{IsWhole, IsWholeBlock}
+use Rattle.std.proofs.Common.{◌≡◌, ℕ, take, sym, subst, List, refl}
+use Rattle.std.proofs.lemmas.Result.{err_from_is_err_and}
+use Rattle.imsm_base.specs.Whole.{IsWholeBlock}
 use Rattle.imsm_base.specs.Parts.{block_in}
 use Rattle.imsm_codec.specs.Given.{given_block}
 use Rattle.imsm_codec.specs.Laid.{IsLaid}
 use Rattle.imsm_codec.specs.Checked.{IsChecked, HasBlockFault}
 use Rattle.imsm_codec.proofs.Wholeness.{whole_from_checks, laid_from_checks}
 use Rattle.imsm_codec.proofs.Faulty.{front_not_whole, block_not_whole, at_error}
+use Rattle.imsm_codec.proofs.Exact.{found_front, found_block, exact_error, exact_ok}
+use Rattle.imsm_codec.specs.declared.fault.MpbFault.{MpbFault}
 use Rattle.imsm_codec.proofs.checks.check.Goals as goal
 
 -- what is said of the first n bytes holds of the block, where n is its size
@@ -42,3 +45,22 @@ returns-clause-ok c = (
   ),
   λ w. refl,
 )
+
+pub returns-in_err-check_front-clause-fault : goal.returns-in_err-check_front-clause-fault
+returns-in_err-check_front-clause-fault c =
+    let found : MpbFault = c.in_err-check_front.field-0.0 in
+    let p = err_from_is_err_and c.from_residual.result c.from_residual.ensures.1 in
+    λ e. exact_error c.args.bytes.now c.from_residual.result found e (rw (p.1, p.2) refl)
+    (found_front c.args.bytes.now found c.in_err-check_front.ensures)
+
+pub returns-in_err-check_parts-clause-fault : goal.returns-in_err-check_parts-clause-fault
+returns-in_err-check_parts-clause-fault c =
+    let found : MpbFault = c.in_err-check_parts.field-0.0 in
+    let p = err_from_is_err_and c.from_residual-in_err-check_parts.result c.from_residual-in_err-check_parts.ensures.1 in
+    λ e. exact_error c.args.bytes.now c.from_residual-in_err-check_parts.result found e (rw (p.1, p.2) refl)
+    (found_block c.args.bytes.now found c.in_ok-check_front.ensures
+    (of_block (λ (x : List ℕ). HasBlockFault x found) _ _ c.args.bytes.now c.get_u32.ensures c.in_err-check_parts.ensures))
+
+pub returns-clause-fault : goal.returns-clause-fault
+returns-clause-fault c =
+    λ e. exact_ok c.args.bytes.now _ e c.in_ok-check_front.ensures (of_block IsChecked _ _ c.args.bytes.now c.get_u32.ensures c.in_ok-check_parts.ensures)

@@ -1,6 +1,6 @@
-use Rattle.std.proofs.Common.{◌≡◌, ℕ, ◌<◌, ◌⊎◌, ◌∙◌, inl, inr, length, arith, false, ap, List}
+use Rattle.std.proofs.Common.{◌≡◌, ℕ, ◌∙◌, inl, inr, arith, false, ap, List}
 use Rattle.std.proofs.lemmas.Bool.{cases_lt}
-use Rattle.imsm_base.specs.Fields.{Part, number_at}
+use Rattle.imsm_base.specs.Fields.{Part}
 use Rattle.imsm_base.specs.Parts.{block_in}
 use Rattle.imsm_base.proofs.Apart.{length-disks}
 use Rattle.imsm_codec.specs.Checked.{are_twins_at}

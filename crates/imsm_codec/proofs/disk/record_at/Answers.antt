@@ -1,4 +1,4 @@
-use Rattle.std.proofs.Common.{◌≡◌, ℕ, ◌+◌, ◌*◌, take, drop, sym, ◌∙◌, ap}
+use Rattle.std.proofs.Common.{ℕ, ◌+◌, ◌*◌, drop, sym, ◌∙◌, ap}
 use Rattle.imsm_base.specs.Layout.{disk_lengths}
 use Rattle.imsm_base.specs.Parts.{cut_at}
 use Rattle.imsm_base.proofs.At.{disk_in-block}

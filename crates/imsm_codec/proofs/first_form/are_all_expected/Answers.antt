@@ -1,4 +1,4 @@
-use Rattle.std.proofs.Common.{◌≡◌, ◌≤◌, length, sym, ◌∙◌, arith}
+use Rattle.std.proofs.Common.{sym, ◌∙◌, arith}
 use Rattle.imsm_base.specs.Whole.{is_expected}
 use Rattle.imsm_codec.specs.Mpb.{block_bytes, block_of}
 use Rattle.imsm_codec.proofs.Found.{list_all_past, disks_counted}

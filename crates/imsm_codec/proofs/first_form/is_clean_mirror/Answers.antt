@@ -1,4 +1,4 @@
-use Rattle.std.proofs.Common.{◌≡◌, ℕ, length, refl, sym, ◌∙◌, ap, subst, Bool, true, arith}
+use Rattle.std.proofs.Common.{◌≡◌, sym, ◌∙◌, subst, Bool, true}
 use Rattle.std.specs.Prelude.{◌↔◌}
 use Rattle.imsm_base.specs.Layout.{Block, Volume}
 use Rattle.imsm_base.specs.FirstForm.{IsCleanMirror}

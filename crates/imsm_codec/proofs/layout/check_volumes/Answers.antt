@@ -1,4 +1,4 @@
-use Rattle.std.proofs.Common.{◌≡◌, ℕ, ◌+◌, ◌-◌, ◌≤◌, List, length, drop, refl, sym, ◌∙◌, ap, arith}
+use Rattle.std.proofs.Common.{ℕ, drop, ◌∙◌, ap, arith}
 use Rattle.imsm_base.specs.Parts.{behind_disks}
 use Rattle.imsm_codec.proofs.Places.{ends, left, next}
 use Rattle.imsm_codec.proofs.layout.check_volumes.Goals as goal

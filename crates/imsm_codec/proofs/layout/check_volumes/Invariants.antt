@@ -1,4 +1,4 @@
-use Rattle.std.proofs.Common.{◌≡◌, ◌≤◌, drop}
+use Rattle.std.proofs.Common.{◌≡◌, drop}
 use Rattle.imsm_base.specs.Parts.{behind_disks, volumes_in, volumes_room}
 use Rattle.imsm_codec.specs.Checked.{HasRoomFor}
 use Rattle.imsm_codec.proofs.layout.check_volumes.Given as goal

@@ -1,4 +1,4 @@
-use Rattle.std.proofs.Common.{◌≡◌, ℕ, ◌<◌, ◌≤◌, List, [], length, sym, ◌∙◌, arith}
+use Rattle.std.proofs.Common.{List, [], sym, ◌∙◌, arith}
 use Rattle.imsm_base.specs.Fields.{Part}
 use Rattle.imsm_codec.specs.Mpb.{block_bytes, block_of}
 use Rattle.imsm_codec.specs.Own.{is_own}

@@ -1,8 +1,8 @@
-use Rattle.std.proofs.Common.{◌≡◌, ◌≤◌, ℕ, ◌+◌, List, length, drop, refl, sym, ◌∙◌, ap, subst, arith}
+use Rattle.std.proofs.Common.{◌≡◌, ◌≤◌, ℕ, ◌+◌, List, length, drop, sym, ◌∙◌, ap, subst, arith}
 use Rattle.imsm_base.specs.Layout.{Volume}
 use Rattle.imsm_base.specs.Parts.{map_in, map_room}
 use Rattle.imsm_base.proofs.At.{map_place}
-use Rattle.imsm_codec.specs.Mpb.{block_of, volume_at, map_at}
+use Rattle.imsm_codec.specs.Mpb.{block_of, volume_at}
 use Rattle.imsm_codec.proofs.Places.{map_found, map_inside, last_map}
 use Rattle.imsm_codec.proofs.mpb.MpbRef.map_bytes.Goals as goal
 

@@ -1,4 +1,4 @@
-use Rattle.std.proofs.Common.{◌≡◌, ℕ, ◌+◌, ◌*◌, ◌∙◌, ap}
+use Rattle.std.proofs.Common.{ℕ, ◌+◌, ◌*◌, ◌∙◌, ap}
 use Rattle.imsm_base.specs.Fields.{number_at}
 use Rattle.imsm_codec.proofs.Places.{order_found}
 use Rattle.imsm_codec.proofs.mpb.MpbRef.map_ord.Goals as goal

@@ -1,0 +1,142 @@
+//! The command: its words are read, its images opened, and what is said of them is printed.
+ghost use Rattle.std.specs.Prelude.{◌≡◌, ◌≢◌, ◌≤◌, ◌⊎◌, List, [], length, map, IfSome};
+ghost use Rattle.std.specs.Option.{IsSomeAnd};
+ghost use Rattle.member_bank.specs.Faults.{Rose};
+ghost use Rattle.image_run.specs.Outside.{Adds, IsUnused};
+ghost use Rattle.image_run.specs.Words.{AreImages, ImageWord, IsAssemble, IsCommand, texts};
+ghost use Rattle.image_run.specs.Args.{words_of};
+ghost use Rattle.image_run.specs.Images.{images_told};
+ghost use Rattle.image_run.specs.Text.{report_status, report_text};
+ghost use Rattle.image_run.specs.Endings.{EndsWithoutMemory, HasOnlyReads, IsReported, Reports, Tells, words_line};
+
+use crate::images::read_images;
+use crate::opening::{OpenFault, open_all};
+use crate::outside::{Shelf, Sink};
+use crate::report::Report;
+use crate::status::{Status, end, end_unopened, end_without_memory};
+use crate::text::text_of;
+use crate::verdict::report_on;
+use crate::words::{ImageArg, parse};
+use imsm_base::MAX_DISKS;
+use member_bank::Bank;
+use std::alloc::Global;
+
+impl Report {
+    /// The status with which the report is printed.
+    fn status(&self) -> Status
+        ensures { result.0 ≡ report_status self.now }
+    {
+        match self {
+            Report::Unbuilt(_) => Status::UNBUILT,
+            Report::Waiting { .. } => Status::WAITING,
+            Report::Started { .. } => Status::STARTED,
+        }
+    }
+}
+
+/// Prints a report.
+fn print<K: Sink>(alloc: Global, report: &Report, sink: &mut K) -> Status
+    ensures status { (result.0 ≡ report_status report.now) ⊎ (result.0 ≡ 6) ⊎ (result.0 ≡ 9) }
+    ensures lines { IsReported result.0 → Adds (K.written sink.old) (K.written sink.new) (report_text report.now) }
+    ensures write_fault { result.0 ≡ 6 → Rose (K.faults_of sink.old) (K.faults_of sink.new) }
+    ensures memory { result.0 ≡ 9 → EndsWithoutMemory (K.written sink.old) (K.written sink.new) (K.faults_of sink.old) (K.faults_of sink.new) }
+{
+    match text_of(alloc, report) {
+        Ok(text) => end(sink, text.as_slice(), report.status()),
+        Err(_) => end_without_memory(sink),
+    }
+}
+
+/// Prints what is said of the disks of a bank, of which there are 1 to 16.
+fn assemble<B: Bank, K: Sink>(alloc: Global, bank: &mut B, sink: &mut K) -> Status
+    requires fresh { IfSome (B.log bank.old) (λ l. l ≡ []) }
+    requires some { 1 ≤ length (B.serials bank.old) }
+    ensures reads { HasOnlyReads B.log bank.new }
+    ensures status { IsReported result.0 ⊎ (result.0 ≡ 6) ⊎ (result.0 ≡ 9) }
+    ensures write_fault { result.0 ≡ 6 → Rose (K.faults_of sink.old) (K.faults_of sink.new) }
+    ensures memory { result.0 ≡ 9 → EndsWithoutMemory (K.written sink.old) (K.written sink.new) (K.faults_of sink.old) (K.faults_of sink.new) }
+    ensures reported { IsReported result.0 → IfSome (B.opening bank.new) (λ opening. IfSome (B.log bank.new) (λ log.
+        Reports (images_told (B.serials bank.new) (B.sizes bank.new) opening log) (K.written sink.old) (K.written sink.new) result.0)) }
+    ensures serials { B.serials bank.new ≡ B.serials bank.old }
+{
+    match read_images(alloc, bank) {
+        Ok(images) => print(alloc, &report_on(images.as_slice()), sink),
+        Err(_) => end_without_memory(sink),
+    }
+}
+
+/// Opens the images, and prints what is said of them.
+fn run<H: Shelf, K: Sink>(alloc: Global, images: &[ImageArg<'_>], shelf: &mut H, sink: &mut K) -> Status
+    requires unused { IsSomeAnd (H.held shelf.old) (IsUnused H.Held.serials H.Held.log) }
+    requires named { AreImages (words_of images.now) }
+    ensures reads { IsSomeAnd (H.held shelf.new) (HasOnlyReads H.Held.log) }
+    ensures status { IsReported result.0 ⊎ (result.0 ≡ 6) ⊎ (result.0 ≡ 7) ⊎ (result.0 ≡ 9) }
+    ensures write_fault { result.0 ≡ 6 → Rose (K.faults_of sink.old) (K.faults_of sink.new) }
+    ensures open_fault { result.0 ≡ 7 → Rose (H.faults_of shelf.old) (H.faults_of shelf.new) }
+    ensures memory { result.0 ≡ 9 → EndsWithoutMemory (K.written sink.old) (K.written sink.new) (K.faults_of sink.old) (K.faults_of sink.new) }
+    ensures told { IsReported result.0 → IsSomeAnd (H.held shelf.new)
+        (Tells H.Held.serials H.Held.sizes H.Held.opening H.Held.log (words_of images.now) (K.written sink.old) (K.written sink.new) result.0) }
+{
+    match open_all(alloc, images, shelf) {
+        Ok(()) => {}
+        Err(OpenFault::Memory) => return end_without_memory(sink),
+        Err(OpenFault::Failed(i)) => return end_unopened(sink, images[i].name),
+    }
+    let mut bank = shelf.lend();
+    let status = assemble(alloc, &mut bank, sink);
+    shelf.hand_back(bank);
+    status
+}
+
+/// Runs a command that waits for nobody.
+///
+/// The words are `assemble` and 1 to 16 words NAME=FILE. The status is 0 where the volume starts, 1 where the words are
+/// others, 2 where a disk of the container is absent, 6 where a line couldn't be written, 7 where an image couldn't be
+/// opened, 9 without memory, and 14 where an image isn't of the form that is started today.
+pub fn image_still<H: Shelf, K: Sink>(alloc: Global, words: &[String], shelf: &mut H, sink: &mut K) -> Status
+    requires unused { IsSomeAnd (H.held shelf.old) (IsUnused H.Held.serials H.Held.log) }
+
+    // No disk is written or synced, whatever the status.
+    ensures reads { IsSomeAnd (H.held shelf.new) (HasOnlyReads H.Held.log) }
+
+    // When each status comes.
+    ensures words { result.0 ≡ 1 → IsCommand (texts words.now) → ⊥ }
+    ensures no_command { (IsCommand (texts words.now) → ⊥) → (result.0 ≡ 1) ⊎ (result.0 ≡ 6) ⊎ (result.0 ≡ 9) }
+    ensures command { IsCommand (texts words.now) → IsReported result.0 ⊎ (result.0 ≡ 6) ⊎ (result.0 ≡ 7) ⊎ (result.0 ≡ 9) }
+    ensures write_fault { result.0 ≡ 6 → Rose (K.faults_of sink.old) (K.faults_of sink.new) }
+    ensures open_fault { result.0 ≡ 7 → Rose (H.faults_of shelf.old) (H.faults_of shelf.new) }
+
+    // What is printed.
+    ensures words_line { result.0 ≡ 1 → Adds (K.written sink.old) (K.written sink.new) words_line }
+    ensures memory { result.0 ≡ 9 → EndsWithoutMemory (K.written sink.old) (K.written sink.new) (K.faults_of sink.old) (K.faults_of sink.new) }
+    ensures told { IsReported result.0 → (images : List ImageWord) × IsAssemble (texts words.now) images × IsSomeAnd (H.held shelf.new)
+        (Tells H.Held.serials H.Held.sizes H.Held.opening H.Held.log images (K.written sink.old) (K.written sink.new) result.0) }
+{
+    match parse(words) {
+        Some(images) => run(alloc, images.as_slice(), shelf, sink),
+        None => end(sink, b"words\n", Status::WORDS),
+    }
+}
+
+/// Runs a command. All of them wait for nobody today.
+pub fn image_main<H: Shelf, K: Sink>(alloc: Global, words: &[String], shelf: &mut H, sink: &mut K) -> Status
+    requires unused { IsSomeAnd (H.held shelf.old) (IsUnused H.Held.serials H.Held.log) }
+
+    // No disk is written or synced, whatever the status.
+    ensures reads { IsSomeAnd (H.held shelf.new) (HasOnlyReads H.Held.log) }
+
+    // When each status comes.
+    ensures words { result.0 ≡ 1 → IsCommand (texts words.now) → ⊥ }
+    ensures no_command { (IsCommand (texts words.now) → ⊥) → (result.0 ≡ 1) ⊎ (result.0 ≡ 6) ⊎ (result.0 ≡ 9) }
+    ensures command { IsCommand (texts words.now) → IsReported result.0 ⊎ (result.0 ≡ 6) ⊎ (result.0 ≡ 7) ⊎ (result.0 ≡ 9) }
+    ensures write_fault { result.0 ≡ 6 → Rose (K.faults_of sink.old) (K.faults_of sink.new) }
+    ensures open_fault { result.0 ≡ 7 → Rose (H.faults_of shelf.old) (H.faults_of shelf.new) }
+
+    // What is printed.
+    ensures words_line { result.0 ≡ 1 → Adds (K.written sink.old) (K.written sink.new) words_line }
+    ensures memory { result.0 ≡ 9 → EndsWithoutMemory (K.written sink.old) (K.written sink.new) (K.faults_of sink.old) (K.faults_of sink.new) }
+    ensures told { IsReported result.0 → (images : List ImageWord) × IsAssemble (texts words.now) images × IsSomeAnd (H.held shelf.new)
+        (Tells H.Held.serials H.Held.sizes H.Held.opening H.Held.log images (K.written sink.old) (K.written sink.new) result.0) }
+{
+    image_still(alloc, words, shelf, sink)
+}
