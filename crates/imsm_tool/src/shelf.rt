@@ -20,6 +20,15 @@ fn open_image<R: Files<File = File>>(rt: &R, path: &str) -> io::Result<File> {
     }
 }
 
+/// Takes the numbers of standard input, output and error, as far as they are closed, by a folder, which can be neither
+/// read nor written as a file. Else the next image would have such a number, and the lines of a command would go into it.
+fn hold_numbers<R: Files<File = File>>(rt: &R) -> io::Result<[File; 3]> {
+    let input = File::open(rt, "/")?;
+    let output = File::open(rt, "/")?;
+    let error = File::open(rt, "/")?;
+    Ok([input, output, error])
+}
+
 /// The system doesn't let this file be written.
 fn is_refusal(error: &io::Error) -> bool {
     matches!(
@@ -57,6 +66,7 @@ fn add(bank: &mut FileBank, serial: Serial, image: io::Result<File>) -> Result<D
 #[derive(Drop)]
 pub struct FileShelf<'a, R> {
     rt: &'a R,
+    numbers: io::Result<[File; 3]>,
     bank: Option<FileBank>,
     faults: u64,
 }
@@ -69,15 +79,26 @@ impl<'a, R> Model for FileShelf<'a, R> {
     ghost view = { λ s. record { bank = s.bank; faults = s.faults } };
 }
 
-impl<'a, R> FileShelf<'a, R> {
+impl<'a, R: Files<File = File>> FileShelf<'a, R> {
     /// A shelf on which nothing is opened.
     pub fn new(alloc: Global, rt: &'a R) -> FileShelf<'a, R>
         ensures { result ≡ record { bank = Some (record { serials = []; sizes = []; faults = [] }); faults = 0 } }
     {
         FileShelf {
             rt,
+            numbers: hold_numbers(rt),
             bank: Some(FileBank::new(alloc)),
             faults: 0,
+        }
+    }
+}
+
+impl<R: Files<File = File>> FileShelf<'_, R> {
+    /// Opens an image, under none of the numbers that are held.
+    fn open_apart(&self, path: &str) -> io::Result<File> {
+        match &self.numbers {
+            Ok(_) => open_image(self.rt, path),
+            Err(error) => Err(io::Error::from(error.kind())),
         }
     }
 }
@@ -90,8 +111,9 @@ impl<R: Files<File = File>> Shelf for FileShelf<'_, R> {
     ghost faults_of = { λ s. s.faults };
 
     fn open(&mut self, _alloc: Global, serial: Serial, file: &str) -> Result<DiskNo, ShelfFault> {
+        let image = self.open_apart(file);
         let mut bank = self.bank.take().unwrap();
-        let added = add(&mut bank, serial, open_image(self.rt, file));
+        let added = add(&mut bank, serial, image);
         self.bank = Some(bank);
         if let Err(ShelfFault::Failed) = added {
             self.faults = self.faults.saturating_add(1);
