@@ -19,5 +19,5 @@ pub use memory::{MemFault, MemSink};
 pub use outside::{Shelf, ShelfFault, Sink, write_all};
 pub use report::Report;
 pub use shelf::{MemFile, MemShelf};
-pub use status::Status;
+pub use status::{Status, end_without_memory};
 pub use words::{ImageArg, image_of, parse};

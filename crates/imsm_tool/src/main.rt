@@ -1,0 +1,119 @@
+//! The program: it hands the words of its command line to the top call, over files and standard output, and ends with
+//! the status that is answered.
+#![tactic(auto)]
+
+mod shelf;
+mod sink;
+
+use image_run::{Status, end_without_memory, image_main};
+use shelf::FileShelf;
+use sink::OutSink;
+use std::alloc::AllocError;
+use std::io::ErrorKind;
+use std::process::ExitCode;
+use std::rt::Env;
+use std::{env, io};
+
+/// The words after the program's name. A word that isn't UTF-8 makes the command line faulty: then no words are
+/// answered, which are no command either.
+fn words(rt: &(impl Env + AllocGlobal)) -> Result<Vec<String>, AllocError> {
+    match env::args(rt) {
+        Ok(args) => args.skip(1).collect(rt.alloc()),
+        Err(error) if error.kind() == ErrorKind::OutOfMemory => Err(AllocError),
+        Err(_) => Ok(Vec::new(rt.alloc())),
+    }
+}
+
+fn main(rt: HostRuntime) -> ExitCode {
+    let alloc = rt.alloc();
+    let mut shelf = FileShelf::new(alloc, &rt);
+    let mut sink = OutSink::new(io::writer(&rt));
+    let Status(number) = match words(&rt) {
+        Ok(words) => image_main(alloc, words.as_slice(), &mut shelf, &mut sink),
+        Err(AllocError) => end_without_memory(&mut sink),
+    };
+    ExitCode::from(number)
+}
+
+#[cfg(test)]
+mod tests {
+    use super::*;
+    use image_run::Sink;
+    use std::fs;
+    use std::fs::File;
+    use std::io::Write;
+    use std::os::unix::fs::FileExt;
+    use std::test::Fail;
+
+    const ANCHOR: u64 = 4094 * 512;
+
+    /// An image of 4,096 sectors with the metadata block of a new mirror of two disks, A and B. All other bytes are 0.
+    fn write_image(rt: &HostRuntime, path: &str) -> io::Result<()> {
+        let file = File::create(rt, path)?;
+        file.set_len(4096 * 512)?;
+        file.write_all_at(b"Intel Raid ISM Cfg Sig. 1.3.00", ANCHOR)?;
+        let header = [
+            0x0b, 0x51, 0x70, 0x47, 0xe0, 1, 0, 0, 0x59, 0x70, 0x25, 0x6d, 1,
+        ];
+        file.write_all_at(&header, ANCHOR + 32)?;
+        file.write_all_at(
+            &[2, 1, 0, 0, 0, 0, 0, 0, 0x59, 0x70, 0x25, 0x6d],
+            ANCHOR + 56,
+        )?;
+        let disk = [0, 0x10, 0, 0, 0, 0, 0, 0, 2];
+        file.write_all_at(b"A", ANCHOR + 216)?;
+        file.write_all_at(&disk, ANCHOR + 232)?;
+        file.write_all_at(b"B", ANCHOR + 264)?;
+        file.write_all_at(&disk, ANCHOR + 280)?;
+        file.write_all_at(b"Volume0", ANCHOR + 312)?;
+        file.write_all_at(&[4], ANCHOR + 329)?;
+        let map = [4, 0, 0, 8, 0, 0, 0, 0x80, 0, 0, 1, 2, 2, 0xff, 1];
+        file.write_all_at(&map, ANCHOR + 429)?;
+        file.write_all_at(&[1], ANCHOR + 476)
+    }
+
+    fn run<K: Sink>(rt: &HostRuntime, words: &[&str], sink: &mut K) -> Result<u8, AllocError> {
+        let alloc = rt.alloc();
+        let mut all = Vec::new(alloc);
+        for word in words {
+            all.push(String::from_str(alloc, word)?)?;
+        }
+        let mut shelf = FileShelf::new(alloc, rt);
+        let Status(number) = image_main(alloc, all.as_slice(), &mut shelf, sink);
+        Ok(number)
+    }
+
+    /// A writer that takes all bytes, and can't bring them on.
+    #[derive(Drop)]
+    struct Unflushed;
+
+    impl Write for Unflushed {
+        fn write(&mut self, from: &[u8]) -> io::Result<usize> {
+            Ok(from.len())
+        }
+
+        fn flush(&mut self) -> io::Result<()> {
+            Err(io::Error::from(ErrorKind::StorageFull))
+        }
+    }
+
+    #[test]
+    fn a_mirror_starts_from_two_files(rt: HostRuntime) -> Result<(), Fail> {
+        write_image(&rt, "a.img")?;
+        write_image(&rt, "b.img")?;
+        let both = ["assemble", "A=a.img", "B=b.img"];
+        let mut lines = Vec::new(rt.alloc());
+        assert_eq!(rt; run(&rt, &both, &mut OutSink::new(&mut lines))?, 0);
+        let told =
+            b"family 6d257059 generation 1\nvolume 0 started\ndisk A member\ndisk B member\n";
+        assert_eq!(rt; lines.as_slice(), told.as_slice());
+        assert_eq!(rt; run(&rt, &both, &mut OutSink::new(Unflushed))?, 6);
+        fs::remove_file(&rt, "b.img")?;
+        assert_eq!(rt;
+            run(&rt, &both, &mut OutSink::new(Vec::new(rt.alloc())))?,
+            7
+        );
+        fs::remove_file(&rt, "a.img")?;
+        Ok(())
+    }
+}

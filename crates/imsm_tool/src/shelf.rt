@@ -1,0 +1,135 @@
+//! Disks that are files of this machine.
+ghost use Rattle.std.specs.Prelude.{◌≡◌, ◌≢◌, ◌<◌, ℕ, [], Some, length, All, IfOk, OnOk, OnErr};
+ghost use Rattle.member_bank.specs.Files.{with_file};
+
+use image_run::{Shelf, ShelfFault};
+use imsm_base::{DiskNo, MAX_DISKS, Serial};
+use member_bank::{Bank, FileBank, FileBankFault};
+use std::alloc::Global;
+use std::fs::{File, OpenOptions};
+use std::io;
+use std::io::ErrorKind;
+use std::marker::Model;
+use std::rt::Files;
+
+/// Opens an image for reading and writing, or, where writing isn't allowed, for reading.
+fn open_image<R: Files<File = File>>(rt: &R, path: &str) -> io::Result<File> {
+    match OpenOptions::new().read(true).write(true).open(rt, path) {
+        Err(error) if is_refusal(&error) => File::open(rt, path),
+        opened => opened,
+    }
+}
+
+/// Takes the numbers of standard input, output and error, as far as they are closed, by a folder, which can be neither
+/// read nor written as a file. Else the next image would have such a number, and the lines of a command would go into it.
+fn hold_numbers<R: Files<File = File>>(rt: &R) -> io::Result<[File; 3]> {
+    let input = File::open(rt, "/")?;
+    let output = File::open(rt, "/")?;
+    let error = File::open(rt, "/")?;
+    Ok([input, output, error])
+}
+
+/// The system doesn't let this file be written.
+fn is_refusal(error: &io::Error) -> bool {
+    matches!(
+        error.kind(),
+        ErrorKind::PermissionDenied | ErrorKind::ReadOnlyFilesystem
+    )
+}
+
+fn fault_of(error: io::Error) -> ShelfFault {
+    match error.kind() {
+        ErrorKind::OutOfMemory => ShelfFault::Memory,
+        _ => ShelfFault::Failed,
+    }
+}
+
+/// An opened file as the next disk of a bank, and its number. After a fault the bank is as it was.
+fn add(bank: &mut FileBank, serial: Serial, image: io::Result<File>) -> Result<DiskNo, ShelfFault>
+    requires few { length bank.old.serials < MAX_DISKS }
+    requires distinct { All (λ s. s ≢ serial) bank.old.serials }
+    ensures number { IfOk result (λ d. d.0 ≡ length bank.old.serials) }
+    ensures ok { OnOk result ((sectors : ℕ) × (bank.new ≡ with_file bank.old serial sectors)) }
+    ensures err { OnErr result (bank.new ≡ bank.old) }
+{
+    let number = DiskNo(bank.disks());
+    let image = image.map_err(fault_of)?;
+    match bank.add(serial, image) {
+        Ok(()) => Ok(number),
+        Err(FileBankFault::Memory) => Err(ShelfFault::Memory),
+        Err(FileBankFault::Length(error)) => Err(fault_of(error)),
+    }
+}
+
+/// A shelf whose disks are files, opened by their paths. A file that can't be written is opened all the same: a write
+/// to it is then a fault of that disk.
+#[derive(Drop)]
+pub struct FileShelf<'a, R> {
+    rt: &'a R,
+    numbers: io::Result<[File; 3]>,
+    bank: Option<FileBank>,
+    faults: u64,
+}
+
+impl<'a, R> Model for FileShelf<'a, R> {
+    ghost use Rattle.imsm_tool.specs.Adapters.{FilesState};
+
+    ghost Value = { FilesState };
+
+    ghost view = { λ s. record { bank = s.bank; faults = s.faults } };
+}
+
+impl<'a, R: Files<File = File>> FileShelf<'a, R> {
+    /// A shelf on which nothing is opened.
+    pub fn new(alloc: Global, rt: &'a R) -> FileShelf<'a, R>
+        ensures { result ≡ record { bank = Some (record { serials = []; sizes = []; faults = [] }); faults = 0 } }
+    {
+        FileShelf {
+            rt,
+            numbers: hold_numbers(rt),
+            bank: Some(FileBank::new(alloc)),
+            faults: 0,
+        }
+    }
+}
+
+impl<R: Files<File = File>> FileShelf<'_, R> {
+    /// Opens an image, under none of the numbers that are held.
+    fn open_apart(&self, path: &str) -> io::Result<File> {
+        match &self.numbers {
+            Ok(_) => open_image(self.rt, path),
+            Err(error) => Err(io::Error::from(error.kind())),
+        }
+    }
+}
+
+impl<R: Files<File = File>> Shelf for FileShelf<'_, R> {
+    type Held = FileBank;
+
+    ghost held = { λ s. s.bank };
+
+    ghost faults_of = { λ s. s.faults };
+
+    fn open(&mut self, _alloc: Global, serial: Serial, file: &str) -> Result<DiskNo, ShelfFault> {
+        let image = self.open_apart(file);
+        let mut bank = self.bank.take().unwrap();
+        let added = add(&mut bank, serial, image);
+        self.bank = Some(bank);
+        if let Err(ShelfFault::Failed) = added {
+            self.faults = self.faults.saturating_add(1);
+        }
+        added
+    }
+
+    fn lend(&mut self) -> FileBank {
+        self.bank.take().unwrap()
+    }
+
+    fn hand_back(&mut self, bank: FileBank) {
+        self.bank = Some(bank);
+    }
+
+    fn faults(&self) -> u64 {
+        self.faults
+    }
+}
