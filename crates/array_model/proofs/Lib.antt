@@ -1,0 +1,4 @@
+pub mod Splits
+pub mod SmallFacts
+pub mod Written
+pub mod SmallKeeps

@@ -14,3 +14,4 @@ pub mod FailureLaw
 pub mod Broken
 pub mod AnswerLaw
 pub mod Meaning
+pub mod Small
