@@ -54,18 +54,14 @@ IsInOrder ops journal c = (rest : List Step) × (steps_due ops c ≡ steps_of op
 -- VALUES
 
 -- a read of a row, made from one stamp on and before another, that went through and gave this sector: what stood there
-pub record IsGiven (start : Start) (log : List Call) (journal : List Entry) (v row since stamp : ℕ) (y : Sector) : Type 0 where
+pub record IsGiven (start : Start) (log : List Call) (v row since stamp : ℕ) (y : Sector) : Type 0 where
   pub before : ℕ
   pub disk : ℕ
-  pub slot : ℕ
-  pub block : Laid
   pub place : ℕ
   pub from : since ≤ before
   pub until : before < stamp
+  pub at_row : place ≡ (start.words.shape start.newest v).pba + row
   pub call : slice_get log before ≡ Some (record { disk = disk; what = Read place; went = true })
-  pub finished : IsFinished start (take before log) (up_to before journal) block
-  pub member : HasInSlot start block v slot disk
-  pub at_row : place ≡ (start.words.shape block v).pba + row
   pub gives : y ≡ ((disk_after start.words start.disks (take before log) disk).cells place).stood
 
 abbrev pub xor_bytes : List ℕ → List ℕ → List ℕ
@@ -78,11 +74,11 @@ xor_onto x [] = x.0
 xor_onto x (y ∷ ys) = xor_bytes x.0 (xor_onto y ys)
 
 -- a sector that a read of the row gave, or at level five the xor of such sectors
-abbrev pub IsGivenOrXor : Start → List Call → List Entry → ℕ → (row since stamp : ℕ) → Sector → Type 0
-IsGivenOrXor start log journal v row since stamp x =
-    IsGiven start log journal v row since stamp x
+abbrev pub IsGivenOrXor : Start → List Call → ℕ → (row since stamp : ℕ) → Sector → Type 0
+IsGivenOrXor start log v row since stamp x =
+    IsGiven start log v row since stamp x
     ⊎ (((start.words.shape start.newest v).level ≡ Some Five)
-    × (y : Sector) × (ys : List Sector) × AllByRecursion (IsGiven start log journal v row since stamp) (y ∷ ys)
+    × (y : Sector) × (ys : List Sector) × AllByRecursion (IsGiven start log v row since stamp) (y ∷ ys)
     × (x.0 ≡ xor_onto y ys))
 
 -- the stamp of an operation's submit
@@ -90,16 +86,16 @@ abbrev pub submitted_from : ℕ → ℕ → List Entry → ℕ
 submitted_from i found [] = found
 submitted_from i found (e ∷ es) = submitted_from i (if is_submit i e.event then e.stamp else found) es
 
-abbrev pub IsGivenAt : Start → List Call → List Entry → ℕ → Option Place → (since stamp : ℕ) → Sector → Type 0
-IsGivenAt start log journal v None since stamp x = ⊥
-IsGivenAt start log journal v (Some place) since stamp x = IsGivenOrXor start log journal v place.row since stamp x
+abbrev pub IsGivenAt : Start → List Call → ℕ → Option Place → (since stamp : ℕ) → Sector → Type 0
+IsGivenAt start log v None since stamp x = ⊥
+IsGivenAt start log v (Some place) since stamp x = IsGivenOrXor start log v place.row since stamp x
 
 -- The value is the content. Exempt is a sector that was unsure at opening and not rewritten since: its answer is what
 -- a read gave between the submit and the ack.
 abbrev pub IsValue : Start → List Op → List Call → List Entry → ℕ → ℕ → ℕ → ℕ → Sector → Bool → Type 0
 IsValue start ops log front stamp i v s x false = x ≡ content start ops front v s
 IsValue start ops log front stamp i v s x true =
-    IsGivenAt start log front v (place_of (start.words.shape start.newest v) s) (submitted_from i 0 front) stamp x
+    IsGivenAt start log v (place_of (start.words.shape start.newest v) s) (submitted_from i 0 front) stamp x
 
 abbrev pub ValueOf : Start → List Op → List Call → List Entry → ℕ → ℕ → Sector → Option OpKind → Type 0
 ValueOf start ops log front stamp i x None = ⊥

@@ -4,3 +4,4 @@ pub mod States
 pub mod Jobs
 pub mod Machine
 pub mod Worked
+pub mod Opens

@@ -11,7 +11,7 @@ use Rattle.array_model.specs.declared.journal.Event.{Event}
 use Rattle.array_model.specs.declared.journal.Event.TheVariants.{Submit, Ack, Idle}
 use Rattle.array_model.specs.declared.journal.Answer.{Answer}
 use Rattle.array_model.specs.declared.journal.Answer.TheVariants.{Past}
-use Rattle.array_model.specs.Script.{kind_at}
+use Rattle.array_model.specs.Script.{kind_at, sector_of}
 use Rattle.array_model.specs.Placement.{Place}
 use Rattle.array_model.specs.Candidates.{disk_after}
 use Rattle.stage_machine.specs.Setting.{Setting}
@@ -231,10 +231,13 @@ GaveOf S log got (Some call) =
     (place : ℕ) → call.what ≡ Read place → call.went ≡ true
     → got ≡ ((disk_after S.start.words S.start.disks log call.disk).cells place).stood
 
+abbrev pub got_of : Action → Sector
+got_of (Monitors x) = sector_of 0
+got_of (Asks k x got) = got
+got_of Quiets = sector_of 0
+
 abbrev pub TrueTurn : Setting → World → Action → Type 0
-TrueTurn S w (Monitors x) = ⊤
-TrueTurn S w (Asks k x got) = GaveOf S w.log got (call_of S w.control (Asks k x got))
-TrueTurn S w Quiets = ⊤
+TrueTurn S w a = GaveOf S w.log (got_of a) (call_of S w.control a)
 
 -- the same where each read gave what stood there
 pub data Honest (S : Setting) : World → Type 0 where

@@ -1,0 +1,3 @@
+pub mod Ours
+pub mod Tallies
+pub mod Form
