@@ -78,8 +78,8 @@ module _ (S : Setting) (c : Control) (got : Sector) (n : ℕ) (mine : Mine S c) 
   named_turn (cleans is s t) = (tt, tt)
   named_turn (rests t calm) = (tt, tt)
   named_turn (pasts k i rest has none) = let lt = op_below S.asked.ops k i (of_left S c k i rest _ mine has) in (lt, (lt, tt))
-  named_turn (asks_read k i rest has w live) = (op_below S.asked.ops k i (of_left S c k i rest _ mine has), tt)
-  named_turn (asks_write k i rest has w live) = (op_below S.asked.ops k i (of_left S c k i rest _ mine has), at c.state)
+  named_turn (asks_read k i rest place has is w live) = (op_below S.asked.ops k i (of_left S c k i rest _ mine has), tt)
+  named_turn (asks_write k i rest place has is w live) = (op_below S.asked.ops k i (of_left S c k i rest _ mine has), at c.state)
     where
       at : (state : State) → AllByRecursion (λ e. NamesOp S.asked.ops e.event) (stamped n (asked_events state))
       at IsReadonly = tt
@@ -91,7 +91,7 @@ module _ (S : Setting) (c : Control) (got : Sector) (n : ℕ) (mine : Mine S c) 
   named_turn (puts k i left step d ds has need) = tt
   named_turn (syncs k i left step d ds has need) = tt
   named_turn (gets k i left step d has need) = tt
-  named_turn (acks k i left step answer has need) = (op_below S.asked.ops k i (of_job S c k i left step mine has), tt)
+  named_turn (acks k i left step answer has need) = (op_below S.asked.ops k i (of_job S c k i left step mine has).mine, tt)
 
 ours_turn : (S : Setting) (c : Control) (got : Sector) (n : ℕ) {call : Option Call} {es : List Event} {next : Control} → Turns S c got call es next → AreOurs (stamped n es)
 ours_turn S c got n nothing = tt
@@ -105,8 +105,8 @@ ours_turn S c got n (actives is s t r) = (refl, tt)
 ours_turn S c got n (cleans is s t) = (refl, tt)
 ours_turn S c got n (rests t calm) = (refl, tt)
 ours_turn S c got n (pasts k i rest has none) = (tt, (tt, tt))
-ours_turn S c got n (asks_read k i rest has w live) = (tt, tt)
-ours_turn S c got n (asks_write k i rest has w live) = (tt, at c.state)
+ours_turn S c got n (asks_read k i rest place has is w live) = (tt, tt)
+ours_turn S c got n (asks_write k i rest place has is w live) = (tt, at c.state)
   where
     at : (state : State) → AreOurs (stamped n (asked_events state))
     at IsReadonly = tt
@@ -143,8 +143,8 @@ in_turn_turn S asks c got n journal (actives is s t r) = (tt, tt)
 in_turn_turn S asks c got n journal (cleans is s t) = (tt, tt)
 in_turn_turn S asks c got n journal (rests t calm) = (tt, tt)
 in_turn_turn S asks c got n journal (pasts k i rest has none) = (tt, (tt, tt))
-in_turn_turn S asks c got n journal (asks_read k i rest has w live) = (tt, tt)
-in_turn_turn S asks c got n journal (asks_write k i rest has w live) = (tt, at c.state)
+in_turn_turn S asks c got n journal (asks_read k i rest place has is w live) = (tt, tt)
+in_turn_turn S asks c got n journal (asks_write k i rest place has is w live) = (tt, at c.state)
   where
     submit : Entry
     submit = record { stamp = n; event = Submit i }

@@ -98,8 +98,8 @@ module _ (S : Setting) (c : Control) (got : Sector) (n : ℕ) (first : (i : ℕ)
   ready_step (cleans is s t) = omega arith
   ready_step (rests t calm) = omega arith
   ready_step (pasts k i rest has none) = omega arith
-  ready_step (asks_read k i rest has w live) = omega arith
-  ready_step (asks_write k i rest has w live) = at c.state
+  ready_step (asks_read k i rest place has is w live) = omega arith
+  ready_step (asks_write k i rest place has is w live) = at c.state
     where
       at : (state : State) → tally (is_ready 0) n (Submit i ∷ asked_events state) + readonly (asked_state state) ≤ readonly state
       at IsReadonly = omega arith
@@ -126,8 +126,8 @@ module _ (S : Setting) (c : Control) (got : Sector) (n : ℕ) (first : (i : ℕ)
   active_step (cleans is s t) = let st = ap pending t in omega (arith, st)
   active_step (rests t calm) = let st = ap pending t in omega (arith, st)
   active_step (pasts k i rest has none) = omega arith
-  active_step (asks_read k i rest has w live) = omega arith
-  active_step (asks_write k i rest has w live) = at c.state
+  active_step (asks_read k i rest place has is w live) = omega arith
+  active_step (asks_write k i rest place has is w live) = at c.state
     where
       at : (state : State) → tally (is_active 0) n (Submit i ∷ asked_events state) + pending (asked_state state) ≤ tally (is_pending 0) n (Submit i ∷ asked_events state) + pending state
       at IsReadonly = omega arith
@@ -154,8 +154,8 @@ module _ (S : Setting) (c : Control) (got : Sector) (n : ℕ) (first : (i : ℕ)
   pending_step (cleans is s t) = omega arith
   pending_step (rests t calm) = omega arith
   pending_step (pasts k i rest has none) = omega arith
-  pending_step (asks_read k i rest has w live) = omega arith
-  pending_step (asks_write k i rest has w live) = at c.state (first i w)
+  pending_step (asks_read k i rest place has is w live) = omega arith
+  pending_step (asks_write k i rest place has is w live) = at c.state (first i w)
     where
       at : (state : State) → is_write_in S.asked.ops 0 i ≡ true → tally (is_pending 0) n (Submit i ∷ asked_events state) ≤ tally (is_submit_in S.asked.ops 0) n (Submit i ∷ asked_events state)
       at IsReadonly in_first = rw in_first (omega arith)
@@ -182,8 +182,8 @@ module _ (S : Setting) (c : Control) (got : Sector) (n : ℕ) (first : (i : ℕ)
   idle_step (cleans is s t) = let st = ap awake t in omega (arith, st)
   idle_step (rests t calm) = let st = ap awake t in omega (arith, st)
   idle_step (pasts k i rest has none) = omega arith
-  idle_step (asks_read k i rest has w live) = omega arith
-  idle_step (asks_write k i rest has w live) = at c.state (first i w)
+  idle_step (asks_read k i rest place has is w live) = omega arith
+  idle_step (asks_write k i rest place has is w live) = at c.state (first i w)
     where
       at : (state : State) → is_write_in S.asked.ops 0 i ≡ true → tally (is_idle 0) n (Submit i ∷ asked_events state) + awake (asked_state state) ≤ tally (is_submit_in S.asked.ops 0) n (Submit i ∷ asked_events state) + awake state
       at IsReadonly in_first = rw in_first (omega arith)
@@ -210,8 +210,8 @@ module _ (S : Setting) (c : Control) (got : Sector) (n : ℕ) (first : (i : ℕ)
   clean_step (cleans is s t) = let st = ap resting t in omega (arith, st)
   clean_step (rests t calm) = let st = ap resting t in omega (arith, st)
   clean_step (pasts k i rest has none) = omega arith
-  clean_step (asks_read k i rest has w live) = omega arith
-  clean_step (asks_write k i rest has w live) = at c.state
+  clean_step (asks_read k i rest place has is w live) = omega arith
+  clean_step (asks_write k i rest place has is w live) = at c.state
     where
       at : (state : State) → tally (is_clean 0) n (Submit i ∷ asked_events state) + resting (asked_state state) ≤ tally (is_idle 0) n (Submit i ∷ asked_events state) + resting state
       at IsReadonly = omega arith
@@ -238,8 +238,8 @@ module _ (S : Setting) (c : Control) (got : Sector) (n : ℕ) (first : (i : ℕ)
   end_step (cleans is s t) = omega arith
   end_step (rests t calm) = omega arith
   end_step (pasts k i rest has none) = omega arith
-  end_step (asks_read k i rest has w live) = omega arith
-  end_step (asks_write k i rest has w live) = at c.state
+  end_step (asks_read k i rest place has is w live) = omega arith
+  end_step (asks_write k i rest place has is w live) = at c.state
     where
       at : (state : State) → tally is_end n (Submit i ∷ asked_events state) + going c.round.phase ≤ tally is_begin n (Submit i ∷ asked_events state) + going c.round.phase
       at IsReadonly = omega arith
@@ -302,8 +302,8 @@ module _ (S : Setting) (c : Control) (got : Sector) (n : ℕ) (first : (i : ℕ)
   begin_step renews (cleans is s t) = let most = due_most IsClean c.round c.round.phase in omega (arith, most)
   begin_step renews (rests t calm) = let before = ap (λ z. due_at S z c.round c.round.phase) t in let same = idle_due c.round c.round.phase in omega (arith, before, same)
   begin_step renews (pasts k i rest has none) = omega arith
-  begin_step renews (asks_read k i rest has w live) = omega arith
-  begin_step renews (asks_write k i rest has w live) = at c.state c.round.phase (idle_due c.round c.round.phase) (due_most IsPending c.round c.round.phase)
+  begin_step renews (asks_read k i rest place has is w live) = omega arith
+  begin_step renews (asks_write k i rest place has is w live) = at c.state c.round.phase (idle_due c.round c.round.phase) (due_most IsPending c.round c.round.phase)
     where
       at : (state : State) (phase : Phase) → due_at S IsIdle c.round phase ≡ due_at S IsActive c.round phase → due_at S IsPending c.round phase ≤ 1
           → tally is_begin n (Submit i ∷ asked_events state) + due_at S (asked_state state) c.round phase ≤ tally is_any_pending n (Submit i ∷ asked_events state) + tally is_any_ready n (Submit i ∷ asked_events state) + tally is_any_clean n (Submit i ∷ asked_events state) + due_at S state c.round phase

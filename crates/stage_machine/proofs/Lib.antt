@@ -1,3 +1,5 @@
 pub mod Turns
 pub mod Moments
 pub mod Clients
+pub mod Blocks
+pub mod Stands

@@ -56,9 +56,9 @@ pub data Turns (S : Setting) (c : Control) (got : Sector) : Option Call → List
   cleans : c.round.phase ≡ Rest → c.round.started ≡ true → c.state ≡ IsIdle → Turns S c got None (Clean the_volume ∷ []) (record c { state = IsClean })
   rests : c.state ≡ IsActive → any_writing S c.clients ≡ false → Turns S c got None (Idle the_volume ∷ []) (record c { state = IsIdle })
   pasts : (k i : ℕ) (rest : List ℕ) → Has c k (i ∷ rest) NoJob → place_at S i ≡ None → Turns S c got None (Submit i ∷ Ack i Past ∷ []) (put_client c k rest NoJob)
-  asks_read : (k i : ℕ) (rest : List ℕ) → Has c k (i ∷ rest) NoJob → is_write S i ≡ false → is_readonly c.state ≡ false
+  asks_read : (k i : ℕ) (rest : List ℕ) (place : Place) → Has c k (i ∷ rest) NoJob → place_at S i ≡ Some place → is_write S i ≡ false → is_readonly c.state ≡ false
       → Turns S c got None (Submit i ∷ []) (put_client c k rest (Busy i Waiting))
-  asks_write : (k i : ℕ) (rest : List ℕ) → Has c k (i ∷ rest) NoJob → is_write S i ≡ true → is_readonly c.state ≡ false
+  asks_write : (k i : ℕ) (rest : List ℕ) (place : Place) → Has c k (i ∷ rest) NoJob → place_at S i ≡ Some place → is_write S i ≡ true → is_readonly c.state ≡ false
       → Turns S c got None (Submit i ∷ asked_events c.state) (record (put_client c k rest (Busy i Waiting)) { state = asked_state c.state })
   puts : (k i : ℕ) (left : List ℕ) (step : JobStep) (d : ℕ) (ds : List ℕ) → Has c k left (Busy i step) → need_now S c k i step ≡ Writes d ds
       → Turns S c got (went d (Write ((the_shape S).pba + row_at S i) (value_at S i ∷ []) 1)) [] (put_client c k left (Busy i (after_write S ds)))
@@ -113,10 +113,10 @@ submit_turns S c got k (i ∷ rest) has = at (is_readonly c.state) refl
   where
     write : is_write S i ≡ true → is_readonly c.state ≡ false → (place : Option Place) → place_at S i ≡ place → TurnsOut S c got None (submit_write c k i rest place)
     write w live None is = pasts k i rest has is
-    write w live (Some place) is = asks_write k i rest has w live
+    write w live (Some place) is = asks_write k i rest place has is w live
     read : is_write S i ≡ false → is_readonly c.state ≡ false → (place : Option Place) → place_at S i ≡ place → TurnsOut S c got None (submit_read c k i rest place)
     read w live None is = pasts k i rest has is
-    read w live (Some place) is = asks_read k i rest has w live
+    read w live (Some place) is = asks_read k i rest place has is w live
     kind : is_readonly c.state ≡ false → (kind : Option OpKind) → kind_at S.asked.ops i ≡ kind → TurnsOut S c got None (submit_kind S c k i rest kind)
     kind live None is = nothing
     kind live (Some (OpWrite v s value)) is = write (rw is refl) live (place_at S i) refl
