@@ -29,7 +29,7 @@ abbrev pub AtSet : List Client → ℕ → Client → ℕ → Type 0
 AtSet clients k x j =
     ((j ≡ k) × (client_at (slice_set clients k x) j ≡ x)) ⊎ ((j ≢ k) × (client_at (slice_set clients k x) j ≡ client_at clients j))
 
-same : (n : ℕ) → (n == n) ≡ true
+pub same : (n : ℕ) → (n == n) ≡ true
 same n = grind (arith, nat_tests)
 
 pub at_set : (clients : List Client) (k : ℕ) (x : Client) (j : ℕ) → k < length clients → AtSet clients k x j

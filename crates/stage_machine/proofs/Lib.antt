@@ -3,3 +3,4 @@ pub mod Moments
 pub mod Clients
 pub mod Blocks
 pub mod Stands
+pub mod Targets

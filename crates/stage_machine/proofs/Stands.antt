@@ -123,7 +123,7 @@ module _ (S : Setting) (d : ℕ) where
   abbrev pub after : Disk → What → Bool → Disk
   after k what went = disk_at S.start.words (S.start.disks.serial d) (S.start.disks.sectors d) k what went
 
-  settled_as : (m : Laid) (k : Disk) → Settled S d m k → StandsAs S d m k
+  pub settled_as : (m : Laid) (k : Disk) → Settled S d m k → StandsAs S d m k
   settled_as m k h = record { stands = h.stands; known = h.known }
 
   pub mixed_of : (last m : Laid) (k : Disk) → Settled S d m k → Mixed S d last m k
@@ -163,7 +163,7 @@ module _ (S : Setting) (d : ℕ) where
       at true = inl refl
       at false = inr refl
 
-  sync_stands : (m : Laid) (k : Disk) (went : Bool) → StandsAs S d m k → StandsAs S d m (after k Sync went)
+  pub sync_stands : (m : Laid) (k : Disk) (went : Bool) → StandsAs S d m k → StandsAs S d m (after k Sync went)
   sync_stands m k went h = record {
     stands = synced_cell (k.cells (anchor_place n)) went ∙ h.stands;
     known = subst (In m) (sym (sync_known k went)) h.known;
@@ -181,7 +181,7 @@ module _ (S : Setting) (d : ℕ) where
         known = now.known;
       }
 
-  mixed_sync : (last m : Laid) (k : Disk) (went : Bool) → IsAlone W last → IsAlone W m → Mixed S d last m k → Mixed S d last m (after k Sync went)
+  pub mixed_sync : (last m : Laid) (k : Disk) (went : Bool) → IsAlone W last → IsAlone W m → Mixed S d last m k → Mixed S d last m (after k Sync went)
   mixed_sync last m k went lone alone h = record {
     some = elim (sync_candidates k went) [
       | inl stood ↦ let is = ap (λ (xs : List Laid). length xs) stood in omega (arith, is)
@@ -226,21 +226,21 @@ module _ (S : Setting) (d : ℕ) where
       let same = noted_row W (S.start.disks.serial d) n k place stored s went le in
       (ap (λ (x : Disk). x.candidates) same, ap (λ (x : Disk). x.known) same, cell_row n (k.cells (anchor_place n)) place stored s went le)
 
-  row_stands : (m : Laid) (k : Disk) (what : What) (went : Bool) → RowCall S d what → StandsAs S d m k → StandsAs S d m (after k what went)
+  pub row_stands : (m : Laid) (k : Disk) (what : What) (went : Bool) → RowCall S d what → StandsAs S d m k → StandsAs S d m (after k what went)
   row_stands m k _ went (row_write place stored s le) h =
       let same = row_same k place stored s went le in
       record { stands = ap (λ (x : Cell). x.stood) same.2 ∙ h.stands; known = subst (In m) (sym same.1) h.known }
   row_stands m k _ went (row_read place) h = record { stands = h.stands; known = h.known }
   row_stands m k _ went row_sync h = sync_stands m k went h
 
-  settled_row : (m : Laid) (k : Disk) (what : What) (went : Bool) → IsAlone W m → RowCall S d what → Settled S d m k → Settled S d m (after k what went)
+  pub settled_row : (m : Laid) (k : Disk) (what : What) (went : Bool) → IsAlone W m → RowCall S d what → Settled S d m k → Settled S d m (after k what went)
   settled_row m k _ went alone (row_write place stored s le) h =
       let same = row_same k place stored s went le in
       record { candidates = same.0 ∙ h.candidates; stands = ap (λ (x : Cell). x.stood) same.2 ∙ h.stands; known = subst (In m) (sym same.1) h.known }
   settled_row m k _ went alone (row_read place) h = record { candidates = h.candidates; stands = h.stands; known = h.known }
   settled_row m k _ went alone row_sync h = settled_sync m k went alone h
 
-  mixed_row : (last m : Laid) (k : Disk) (what : What) (went : Bool) → IsAlone W last → IsAlone W m → RowCall S d what → Mixed S d last m k → Mixed S d last m (after k what went)
+  pub mixed_row : (last m : Laid) (k : Disk) (what : What) (went : Bool) → IsAlone W last → IsAlone W m → RowCall S d what → Mixed S d last m k → Mixed S d last m (after k what went)
   mixed_row last m k _ went lone alone (row_write place stored s le) h =
       let same = row_same k place stored s went le in
       record {
