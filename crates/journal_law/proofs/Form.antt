@@ -24,7 +24,7 @@ use Rattle.stage_machine.specs.Machine.{Control, World, Action, Reached, opens, 
 use Rattle.stage_machine.proofs.Turns.{Turns, turns_of, nothing, fails, anchors, settles, ends, begins, readies, actives, cleans, rests, pasts, asks_read, asks_write, puts, syncs, gets, acks}
 use Rattle.stage_machine.proofs.Moments.{Counted, counted_reached}
 use Rattle.stage_machine.proofs.Clients.{Mine, mine_reached, of_left, of_job, op_below}
-use Rattle.journal_law.proofs.Ours.{AreOurs, IsOurs, count_none, no_pass, no_pass_end, no_fault, no_unblock, no_takeover, no_spare, no_settled, no_posted, no_ready, no_active, no_pending, no_idle, no_clean}
+use Rattle.stage_machine.proofs.Ours.{AreOurs, IsOurs, ours_turn, count_none, no_pass, no_pass_end, no_fault, no_unblock, no_takeover, no_spare, no_settled, no_posted, no_ready, no_active, no_pending, no_idle, no_clean}
 use Rattle.journal_law.proofs.Tallies.{readonly, pending, awake, resting, going, due, ready_step, active_step, pending_step, idle_step, clean_step, end_step, begin_step}
 
 pub record Kept (S : Setting) (w : World) : Type 0 where
@@ -92,33 +92,6 @@ module _ (S : Setting) (c : Control) (got : Sector) (n : ℕ) (mine : Mine S c) 
   named_turn (syncs k i left step d ds has need) = tt
   named_turn (gets k i left step d has need) = tt
   named_turn (acks k i left step answer has need) = (op_below S.asked.ops k i (of_job S c k i left step mine has).mine, tt)
-
-ours_turn : (S : Setting) (c : Control) (got : Sector) (n : ℕ) {call : Option Call} {es : List Event} {next : Control} → Turns S c got call es next → AreOurs (stamped n es)
-ours_turn S c got n nothing = tt
-ours_turn S c got n (fails d what asked) = tt
-ours_turn S c got n (anchors m d ds is) = tt
-ours_turn S c got n (settles m d e ds is) = tt
-ours_turn S c got n (ends m d is) = (tt, tt)
-ours_turn S c got n (begins d ds is some why) = (tt, tt)
-ours_turn S c got n (readies is s t) = (refl, tt)
-ours_turn S c got n (actives is s t r) = (refl, tt)
-ours_turn S c got n (cleans is s t) = (refl, tt)
-ours_turn S c got n (rests t calm) = (refl, tt)
-ours_turn S c got n (pasts k i rest has none) = (tt, (tt, tt))
-ours_turn S c got n (asks_read k i rest place has is w live) = (tt, tt)
-ours_turn S c got n (asks_write k i rest place has is w live) = (tt, at c.state)
-  where
-    at : (state : State) → AreOurs (stamped n (asked_events state))
-    at IsReadonly = tt
-    at IsReadAuto = (refl, tt)
-    at IsClean = (refl, tt)
-    at IsPending = tt
-    at IsActive = tt
-    at IsIdle = tt
-ours_turn S c got n (puts k i left step d ds has need) = tt
-ours_turn S c got n (syncs k i left step d ds has need) = tt
-ours_turn S c got n (gets k i left step d has need) = tt
-ours_turn S c got n (acks k i left step answer has need) = (tt, tt)
 
 -- no pass, and no point
 passes_ours : (S : Setting) (front new : List Entry) → AreOurs new → AtEachFrom (λ front e. PassAfter S.start S.asked front e.event) front new

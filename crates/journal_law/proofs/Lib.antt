@@ -1,3 +1,2 @@
-pub mod Ours
 pub mod Tallies
 pub mod Form

@@ -144,7 +144,7 @@ all_in_more : (x : ℕ) (xs ds : List ℕ) → AllIn xs ds → AllIn (x ∷ xs) 
 all_in_more x xs [] h = tt
 all_in_more x xs (d ∷ ds) h = (has_more d x xs h.0, all_in_more x xs ds h.1)
 
-all_in_self : (ms : List ℕ) → AllIn ms ms
+pub all_in_self : (ms : List ℕ) → AllIn ms ms
 all_in_self [] = tt
 all_in_self (x ∷ xs) = (rw (same x) refl, all_in_more x xs xs (all_in_self xs))
 

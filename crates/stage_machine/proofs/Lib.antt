@@ -4,3 +4,5 @@ pub mod Clients
 pub mod Blocks
 pub mod Stands
 pub mod Targets
+pub mod Ours
+pub mod Finished
