@@ -204,13 +204,12 @@ abbrev pub ValueAt : Start → List Op → List Call → List Entry → ℕ → 
 ValueAt start ops log front stamp (Ack i (Value x)) = ValueOf start ops log front stamp i x (kind_at ops i)
 ValueAt start ops log front stamp _ = ⊤
 
-abbrev pub WholeAt : Start → Asked → List Call → List Entry → ℕ → Event → Type 0
-WholeAt start asked log front stamp (Ack i answer) =
-    WholeFor start asked (take stamp log) front answer (kind_at asked.ops i)
-WholeAt start asked log front stamp _ = ⊤
+abbrev pub WholeAt : Start → Asked → List Call → List Entry → Event → Type 0
+WholeAt start asked calls front (Ack i answer) = WholeFor start asked calls front answer (kind_at asked.ops i)
+WholeAt start asked calls front _ = ⊤
 
 pub record AnswerLaw (start : Start) (asked : Asked) (log : List Call) (journal : List Entry) : Type 0 where
   pub order : (c : ℕ) → IsInOrder asked.ops journal c
   pub values : AtEach (λ front e. ValueAt start asked.ops log front e.stamp e.event) journal
   pub reads : EachCall (λ before call. ReadsInSync start log journal before call.disk call.what) log
-  pub whole : AtEach (λ front e. WholeAt start asked log front e.stamp e.event) journal
+  pub whole : AtEach (λ front e. WholeAt start asked (take e.stamp log) front e.event) journal

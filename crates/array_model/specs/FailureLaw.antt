@@ -51,10 +51,10 @@ abbrev pub IsRecordedFor : Start → List Call → List Entry → ℕ → Option
 IsRecordedFor start log front i None = ⊤
 IsRecordedFor start log front i (Some target) = IsRecorded start log front i target
 
-abbrev pub AckOverFaults : Start → List Op → List Call → List Entry → ℕ → Event → Type 0
-AckOverFaults start ops log front stamp (Ack i answer) =
-    is_done answer ≡ true → IsRecordedFor start (take stamp log) front i (write_at ops i)
-AckOverFaults start ops log front stamp _ = ⊤
+abbrev pub AckOverFaults : Start → List Op → List Call → List Entry → Event → Type 0
+AckOverFaults start ops calls front (Ack i answer) =
+    is_done answer ≡ true → IsRecordedFor start calls front i (write_at ops i)
+AckOverFaults start ops calls front _ = ⊤
 
 -- FAILED CALLS
 
@@ -124,7 +124,7 @@ BeginCounts start ops log front stamp (Begin g) =
 BeginCounts start ops log front stamp _ = ⊤
 
 pub record FailureLaw (start : Start) (ops : List Op) (log : List Call) (journal : List Entry) : Type 0 where
-  pub acks : AtEach (λ front e. AckOverFaults start ops log front e.stamp e.event) journal
+  pub acks : AtEach (λ front e. AckOverFaults start ops (take e.stamp log) front e.event) journal
   pub calls : EachCall (λ before call. IsTold journal before call) log
   pub keeps : AtEach (λ front e. BeginKeeps start log front e.stamp e.event) journal
   pub units : AtEach (λ front e. BeginCounts start ops log front e.stamp e.event) journal

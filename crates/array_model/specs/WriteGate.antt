@@ -17,9 +17,9 @@ use Rattle.array_model.specs.Start.{Start}
 abbrev pub IsDirty : Start → List Call → List Entry → ℕ → Type 0
 IsDirty start log journal v = DurableOnWorking start log journal (λ m. start.words.is_dirty m v ≡ true)
 
-abbrev pub ActiveOver : Start → List Call → List Entry → ℕ → Event → Type 0
-ActiveOver start log front stamp (Active v) = IsDirty start (take stamp log) front v.0
-ActiveOver start log front stamp _ = ⊤
+abbrev pub ActiveOver : Start → List Call → List Entry → Event → Type 0
+ActiveOver start calls front (Active v) = IsDirty start calls front v.0
+ActiveOver start calls front _ = ⊤
 
 -- of the volume's entries ready, pending, active and clean the last is active, where a write to it is done
 abbrev pub IsLiveFor : Option Target → List Entry → Type 0
@@ -34,6 +34,6 @@ abbrev pub DirtyWhileLive : Start → List Call → List Entry → Type 0
 DirtyWhileLive start log journal = (v : ℕ) → is_live v journal ≡ true → IsDirty start log journal v
 
 pub record WriteGate (start : Start) (ops : List Op) (log : List Call) (journal : List Entry) : Type 0 where
-  pub at_active : AtEach (λ front e. ActiveOver start log front e.stamp e.event) journal
+  pub at_active : AtEach (λ front e. ActiveOver start (take e.stamp log) front e.event) journal
   pub at_ack : AtEach (λ front e. AckWhileLive ops front e.event) journal
   pub always : Always (DirtyWhileLive start) log journal
