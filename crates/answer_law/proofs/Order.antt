@@ -44,7 +44,7 @@ abbrev pub Due : Setting → World → Type 0
 Due S w = (k : ℕ) → steps_due S.asked.ops k ≡ steps_of S.asked.ops k w.journal ++ todo (client_at w.control.clients k)
 
 -- an operation of one client is of no other
-not_other : (ops : List Op) (j k i : ℕ) → is_of_client ops k i ≡ true → j ≢ k → is_of_client ops j i ≡ false
+pub not_other : (ops : List Op) (j k i : ℕ) → is_of_client ops k i ≡ true → j ≢ k → is_of_client ops j i ≡ false
 not_other ops j k i mine apart = at (slice_get ops i) mine
   where
     at : (o : Option Op) → is_of_client_in k o ≡ true → is_of_client_in j o ≡ false
