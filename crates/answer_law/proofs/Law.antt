@@ -1,0 +1,278 @@
+-- The answer law, kept by each turn.
+use Rattle.std.proofs.Common.{◌≡◌, ◌≢◌, ℕ, zero, suc, ◌+◌, ◌<◌, ◌≤◌, ◌==◌, ◌||◌, ◌&&◌, not, Bool, true, false, if◌then◌else◌, List, [], ◌∷◌, ◌++◌, length, take, refl, ap, sym, ◌∙◌, subst, arith, ◌⊎◌, inl, inr, Option, Some, None, slice_set, length-append}
+use Rattle.std.specs.Prelude.{⊤}
+use Rattle.std.specs.List.{AllByRecursion}
+use Rattle.std.proofs.lemmas.Bool.Decides.{nat_tests}
+use Rattle.std.proofs.lemmas.List.{append-nil}
+use Rattle.imsm_base.specs.declared.units.Sector.{Sector}
+use Rattle.imsm_base.specs.declared.units.VolNo.{VolNo}
+use Rattle.device_log.specs.Log.{Call, What, Read, Write, Sync}
+use Rattle.array_model.specs.declared.script.OpKind.{OpKind}
+use Rattle.array_model.specs.declared.script.OpKind.TheVariants.{Write as OpWrite, Read as OpRead, Whole as OpWhole}
+use Rattle.array_model.specs.declared.journal.Entry.{Entry}
+use Rattle.array_model.specs.declared.journal.Event.{Event}
+use Rattle.array_model.specs.declared.journal.Event.TheVariants.{Submit, Ack}
+use Rattle.array_model.specs.declared.journal.Answer.{Answer}
+use Rattle.array_model.specs.declared.journal.Answer.TheVariants.{Done, Value, Past, Failed, NoSpare}
+use Rattle.array_model.specs.Script.{kind_at, is_of_client}
+use Rattle.array_model.specs.Placement.{Place, place_of}
+use Rattle.array_model.specs.Events.{AtEach, AtEachFrom, has as has_event, is_submit}
+use Rattle.array_model.specs.Moments.{AllBelow}
+use Rattle.array_model.specs.Content.{content, is_still_unsure}
+use Rattle.array_model.specs.AnswerLaw.{AnswerLaw, ValueAt, ValueOf, IsValue, IsGivenAt, IsGivenOrXor, IsGiven, submitted_from}
+use Rattle.array_model.proofs.Journals.{at_each_more}
+use Rattle.stage_machine.specs.Setting.{Setting, Renews, has}
+use Rattle.stage_machine.specs.Opens.{AsksFirst, StandsOnAll, IsFirstVolume, HoldsContent}
+use Rattle.stage_machine.specs.States.{State, IsReadonly, IsReadAuto, IsClean, IsPending, IsActive, IsIdle, asked_events}
+use Rattle.stage_machine.specs.Jobs.{JobStep, Waiting, Writing, Syncing, Written, Got, Job, NoJob, Busy, Client, client_at, the_shape, place_at, sector_in, row_at, row_in, value_at, is_write, holds, Need, NoNeed, Reads, Writes, Syncs, Answers, need_of, after_write, after_sync}
+use Rattle.stage_machine.specs.Machine.{Control, need_now, Out, World, Action, Reached, opens, goes, Honest, opens_true, goes_true, TrueTurn, GaveOf, happens, begins_at, call_of, call_unless, got_of, turned, turned_unless, stamped, calls_after, log_after}
+use Rattle.stage_machine.proofs.Turns.{Turns, turns_of, Has, Asked, nothing, fails, anchors, settles, ends, begins, readies, actives, cleans, rests, pasts, asks_read, asks_write, puts, syncs, gets, acks}
+use Rattle.stage_machine.proofs.Moments.{Counted, counted_reached}
+use Rattle.stage_machine.proofs.Clients.{Mine, mine_reached, of_left, of_job, IsJob, AtSet, at_set, there_left, there_busy, at_start, row_below, NeedIn, need_in}
+use Rattle.stage_machine.proofs.Stands.{GoodRound, good_reached}
+use Rattle.stage_machine.proofs.Targets.{call}
+use Rattle.stage_machine.proofs.Ours.{ours_reached}
+use Rattle.stage_machine.proofs.Finished.{LeftIn, left_reached, fine_reached}
+use Rattle.answer_law.proofs.Order.{in_order, not_other}
+use Rattle.answer_law.proofs.JobKinds.{Fits, fits_reached, fits_of, need_is, NeedFits, KindFits, is_read, is_read_kind, whole_each, acks_reached, reads_in_sync}
+use Rattle.answer_law.proofs.Locks.{job_of, Alone, alone_now, Exclusive, exclusive_reached}
+use Rattle.answer_law.proofs.Rows.{stood, at_row, Spares, spares_read, spares_sync, spares_write, stood_spared, stood_put, other_row, anchor_spares, con, unsure, Plain, plain_con, plain_unsure, kind_first, row_is, done_here, done_there, sure_there, given_now, given_more, submitted-append, submitted_same, submitted_most}
+use Rattle.answer_law.proofs.Values.{WrittenBut, Given, StepVals, JobVals, writes_by, writes_row, NoWriter, Vals, needs, written_but, written_all, answers_from, reads_waits, writes_own, writes_after_write, writes_after_sync, writes_holds, no_writer_back, Carry, carry_job, given_later}
+
+-- CALM TURNS: no row is written, and no write is acknowledged as done
+
+pub record Calm (S : Setting) (log more : List Call) (new : List Entry) : Type 0 where
+  pub stood_same : (row d : ℕ) → row < (the_shape S).size → has d S.members ≡ true → stood S more d row ≡ stood S log d row
+  pub plain : Plain S new
+
+module _ (S : Setting) (volume : IsFirstVolume S) where
+  -- entries that are no acks of done writes
+  plain_none : Plain S []
+  plain_none = record { content_same = λ row x. refl; none_done = λ row. refl }
+
+  calm_none : (log : List Call) (new : List Entry) → Plain S new → Calm S log log new
+  calm_none log new plain = record { stood_same = λ row d below member. refl; plain = plain }
+
+  calm_call : (log : List Call) (e : ℕ) (what : What) (went : Bool) (new : List Entry) → ((row d : ℕ) → row < (the_shape S).size → has d S.members ≡ true → e ≡ d → Spares (at_row S row) what) → Plain S new
+      → Calm S log (log ++ call e what went ∷ []) new
+  calm_call log e what went new spares plain = record {
+    stood_same = λ row d below member. stood_spared S log e d row what went (spares row d below member);
+    plain = plain;
+  }
+
+  module _ (log : List Call) (journal : List Entry) (c : Control) (mine : Mine S c) (old : Vals S log journal c.clients) where
+    -- the job of a client is carried over a calm turn that doesn't submit its operation
+    calm_job : (x : Option Call) (new : List Entry) → Calm S log (log_after log x) new → (j : ℕ) → ((i : ℕ) (step : JobStep) → job_of c.clients j ≡ Busy i step → has_event (is_submit i) new ≡ false)
+        → JobVals S (log_after log x) (journal ++ new) (job_of c.clients j)
+    calm_job x new calm j none = carry_job S log journal (log_after log x) (journal ++ new) (job_of c.clients j)
+      (λ i step is held.
+        let job : IsJob S j i step = of_job S c j i (client_at c.clients j).left step mine (ap (λ (z : Job). record { left = (client_at c.clients j).left; job = z }) is) in
+        let below = row_below S volume.level i job.place job.placed in
+        record {
+          stood_same = λ d member. calm.stood_same (row_at S i) d below member;
+          con_same = plain_con S journal new calm.plain (row_at S i);
+          unsure_same = plain_unsure S journal new calm.plain (row_at S i);
+          given = λ v given. given_later S log journal new x i v (none i step is) given;
+        })
+      (old.jobs j)
+
+    -- the clients are the same
+    calm_same : (x : Option Call) (new : List Entry) → Calm S log (log_after log x) new → ((i : ℕ) → has_event (is_submit i) new ≡ false) → Vals S (log_after log x) (journal ++ new) c.clients
+    calm_same x new calm none = record {
+      jobs = λ j. calm_job x new calm j (λ i step is. none i);
+      free = λ row d below no_writer member sure.
+        calm.stood_same row d below member
+        ∙ old.free row d below no_writer member (sym (plain_unsure S journal new calm.plain row) ∙ sure)
+        ∙ sym (plain_con S journal new calm.plain row);
+    }
+
+    -- one client is set
+    calm_set : (x : Option Call) (new : List Entry) → Calm S log (log_after log x) new → (k : ℕ) (client : Client) → k < length c.clients
+        → ((j : ℕ) → j ≢ k → (i : ℕ) (step : JobStep) → job_of c.clients j ≡ Busy i step → has_event (is_submit i) new ≡ false)
+        → JobVals S (log_after log x) (journal ++ new) client.job
+        → ((row : ℕ) → writes_row S row client.job ≡ false → writes_row S row (job_of c.clients k) ≡ false)
+        → Vals S (log_after log x) (journal ++ new) (slice_set c.clients k client)
+    calm_set x new calm k client lt none here back = record {
+      jobs = λ j. elim (at_set c.clients k client j lt) [
+        | inl same ↦ subst (λ (z : Client). JobVals S (log_after log x) (journal ++ new) z.job) (sym same.1) here
+        | inr other ↦ subst (λ (z : Client). JobVals S (log_after log x) (journal ++ new) z.job) (sym other.1) (calm_job x new calm j (none j other.0))
+      ];
+      free = λ row d below no_writer member sure.
+        calm.stood_same row d below member
+        ∙ old.free row d below (no_writer_back S c.clients k client row lt (back row) no_writer) member (sym (plain_unsure S journal new calm.plain row) ∙ sure)
+        ∙ sym (plain_con S journal new calm.plain row);
+    }
+
+-- A SUBMIT OF ANOTHER CLIENT
+
+job_is : (c : Control) (k : ℕ) (left : List ℕ) (job : Job) → Has c k left job → job_of c.clients k ≡ job
+job_is c k left job has = ap (λ (x : Client). x.job) has
+
+-- no other client's job is of an operation that client k submits
+not_submitted : (S : Setting) (c : Control) (k i : ℕ) (rest : List ℕ) → Mine S c → Has c k (i ∷ rest) NoJob → (j : ℕ) → j ≢ k → (m : ℕ) (step : JobStep) → job_of c.clients j ≡ Busy m step → (i == m) ≡ false
+not_submitted S c k i rest mine here j apart m step is = at (i == m) refl
+  where
+    job : IsJob S j m step
+    job = of_job S c j m (client_at c.clients j).left step mine (ap (λ (z : Job). record { left = (client_at c.clients j).left; job = z }) is)
+    other : is_of_client S.asked.ops j i ≡ false
+    other = not_other S.asked.ops j k i (of_left S c k i rest NoJob mine here) apart
+    at : (b : Bool) → (i == m) ≡ b → (i == m) ≡ false
+    at true e = absurd (
+      let same : m ≡ i = grind (arith, nat_tests, e) in
+      let own : is_of_client S.asked.ops j i ≡ true = subst (λ z. is_of_client S.asked.ops j z ≡ true) same job.mine in
+      cc (own, other))
+    at false e = e
+
+-- EACH TURN
+
+module _ (S : Setting) (asks : AsksFirst S) (volume : IsFirstVolume S) (log : List Call) (journal : List Entry) (c : Control) (got : Sector) (n : ℕ)
+    (mine : Mine S c) (fits : Fits S c) (count : n ≡ length log) (stamps : AllBelow n journal) (old : Vals S log journal c.clients) where
+  step_vals : (k i : ℕ) (left : List ℕ) (step : JobStep) → Has c k left (Busy i step) → StepVals S log journal i step
+  step_vals k i left step here = subst (JobVals S log journal) (job_is c k left (Busy i step) here) (old.jobs k)
+
+  row_inside_size : (k i : ℕ) (left : List ℕ) (step : JobStep) → Has c k left (Busy i step) → row_at S i < (the_shape S).size
+  row_inside_size k i left step here = let job = of_job S c k i left step mine here in row_below S volume.level i job.place job.placed
+
+  -- a job that needs something isn't of a row that another job holds
+  others_rows : (k i : ℕ) (left : List ℕ) (step : JobStep) (need : Need) → need_now S c k i step ≡ need → (NoNeed ≡ need → ⊥)
+      → (j : ℕ) → j ≢ k → (m : ℕ) (other : JobStep) → job_of c.clients j ≡ Busy m other → holds S (row_at S m) (job_of c.clients j) ≡ true → (row_at S i == row_at S m) ≡ false
+  others_rows k i left step need is some j apart m other busy held = at (row_at S i == row_at S m) refl
+    where
+      at : (b : Bool) → (row_at S i == row_at S m) ≡ b → (row_at S i == row_at S m) ≡ false
+      at true e = absurd (
+        let same : row_at S i ≡ row_at S m = grind (arith, nat_tests, e) in
+        let free : holds S (row_at S m) (job_of c.clients j) ≡ false = subst (λ z. holds S z (job_of c.clients j) ≡ false) same (alone_now S c k i step need is some j apart) in
+        cc (free, held))
+      at false e = e
+
+  -- A ROW IS WRITTEN
+
+  put_but : (k i : ℕ) (left : List ℕ) (step : JobStep) (e : ℕ) (ds : List ℕ) → Has c k left (Busy i step) → need_now S c k i step ≡ Writes e ds
+      → WrittenBut S (log ++ call e (Write (at_row S (row_at S i)) (value_at S i ∷ []) 1) true ∷ []) i ds
+  put_but k i left step e ds here need d member out = at (e == d) refl
+    where
+      before : WrittenBut S log i (e ∷ ds)
+      before = written_but S c k i log journal step e ds (needs S c k i step _ need (λ none. absurd cc)) (step_vals k i left step here)
+      at : (b : Bool) → (e == d) ≡ b → stood S (log ++ call e (Write (at_row S (row_at S i)) (value_at S i ∷ []) 1) true ∷ []) d (row_at S i) ≡ value_at S i
+      at true is =
+          let same : e ≡ d = grind (arith, nat_tests, is) in
+          subst (λ z. stood S (log ++ call e (Write (at_row S (row_at S i)) (value_at S i ∷ []) 1) true ∷ []) z (row_at S i) ≡ value_at S i) same (stood_put S log e (row_at S i) (value_at S i))
+      at false is =
+          let unlike : e ≡ d → ⊥ = λ same. absurd (let yes_same : (e == d) ≡ true = grind (arith, nat_tests, same) in cc (yes_same, is)) in
+          stood_spared S log e d (row_at S i) (Write (at_row S (row_at S i)) (value_at S i ∷ []) 1) true (λ same. absurd (unlike same))
+          ∙ before d member (rw (is, out) refl)
+
+  after_write_vals : (more : List Call) (later : List Entry) (i : ℕ) (ds : List ℕ) → WrittenBut S more i ds → StepVals S more later i (after_write S ds)
+  after_write_vals more later i [] h = h
+  after_write_vals more later i (d ∷ ds) h = h
+
+  after_sync_vals : (more : List Call) (later : List Entry) (i : ℕ) (ds : List ℕ) → WrittenBut S more i [] → StepVals S more later i (after_sync ds)
+  after_sync_vals more later i [] h = h
+  after_sync_vals more later i (d ∷ ds) h = h
+
+  vals_put : (k i : ℕ) (left : List ℕ) (step : JobStep) (e : ℕ) (ds : List ℕ) → Has c k left (Busy i step) → need_now S c k i step ≡ Writes e ds
+      → Vals S (log ++ call e (Write (at_row S (row_at S i)) (value_at S i ∷ []) 1) true ∷ []) (journal ++ []) (slice_set c.clients k (record { left = left; job = Busy i (after_write S ds) }))
+  vals_put k i left step e ds here need = record {
+    jobs = λ j. elim (at_set c.clients k client j lt) [
+      | inl same ↦ subst (λ (z : Client). JobVals S more (journal ++ []) z.job) (sym same.1) (after_write_vals more (journal ++ []) i ds (put_but k i left step e ds here need))
+      | inr other ↦ subst (λ (z : Client). JobVals S more (journal ++ []) z.job) (sym other.1)
+          (carry_job S log journal more (journal ++ []) (job_of c.clients j)
+            (λ m step2 is held. record {
+              stood_same = λ d member. stood_there (row_at S m) (others_rows k i left step _ need (λ none. absurd cc) j other.0 m step2 is held) d;
+              con_same = plain_con S journal [] (plain_none S volume) (row_at S m);
+              unsure_same = plain_unsure S journal [] (plain_none S volume) (row_at S m);
+              given = λ v given. given_later S log journal [] (Some (call e (Write (at_row S (row_at S i)) (value_at S i ∷ []) 1) true)) m v refl given;
+            })
+            (old.jobs j))
+    ];
+    free = λ row d below no_writer member sure.
+      let apart : (row_at S i == row) ≡ false = own row no_writer in
+      stood_there row apart d
+      ∙ old.free row d below (no_writer_back S c.clients k client row lt (λ h. ap (writes_row S row) (job_is c k left (Busy i step) here) ∙ writes_own S row i step apart) no_writer) member
+          (sym (plain_unsure S journal [] (plain_none S volume) row) ∙ sure)
+      ∙ sym (plain_con S journal [] (plain_none S volume) row);
+  }
+    where
+      client : Client
+      client = record { left = left; job = Busy i (after_write S ds) }
+      more : List Call
+      more = log ++ call e (Write (at_row S (row_at S i)) (value_at S i ∷ []) 1) true ∷ []
+      lt : k < length c.clients
+      lt = there_busy c k i left step here
+      stood_there : (row : ℕ) → (row_at S i == row) ≡ false → (d : ℕ) → stood S (log ++ call e (Write (at_row S (row_at S i)) (value_at S i ∷ []) 1) true ∷ []) d row ≡ stood S log d row
+      stood_there row apart d = stood_spared S log e d row (Write (at_row S (row_at S i)) (value_at S i ∷ []) 1) true (λ same. spares_write _ 1 _ (other_row S (row_at S i) row apart))
+      own : (row : ℕ) → NoWriter S (slice_set c.clients k (record { left = left; job = Busy i (after_write S ds) })) row → (row_at S i == row) ≡ false
+      own row no_writer = elim (at_set c.clients k (record { left = left; job = Busy i (after_write S ds) }) k (there_busy c k i left step here)) [
+        | inl same ↦ sym (writes_after_write S row i ds) ∙ sym (ap (λ (y : Client). writes_row S row y.job) same.1) ∙ no_writer k
+        | inr other ↦ absurd (other.0 refl)
+      ]
+
+  -- A WRITE IS DONE
+
+  vals_done : (k i : ℕ) (left : List ℕ) → Has c k left (Busy i Written) → need_now S c k i Written ≡ Answers Done
+      → Vals S log (journal ++ record { stamp = n; event = Ack i Done } ∷ []) (slice_set c.clients k (record { left = left; job = NoJob }))
+  vals_done k i left here need = record {
+    jobs = λ j. elim (at_set c.clients k (record { left = left; job = NoJob }) j lt) [
+      | inl same ↦ subst (λ (z : Client). JobVals S log later z.job) (sym same.1) tt
+      | inr other ↦ subst (λ (z : Client). JobVals S log later z.job) (sym other.1)
+          (carry_job S log journal log later (job_of c.clients j)
+            (λ m step2 is held.
+              let apart = others_rows k i left Written _ need (λ none. absurd cc) j other.0 m step2 is held in
+              record {
+                stood_same = λ d member. refl;
+                con_same = done_there S asks volume i job.place job.placed a_write n journal (row_at S m) apart;
+                unsure_same = sure_there S asks volume i job.place job.placed a_write n journal (row_at S m) apart;
+                given = λ v given. given_later S log journal (record { stamp = n; event = Ack i Done } ∷ []) None m v refl given;
+              })
+            (old.jobs j))
+    ];
+    free = λ row d below no_writer member sure. at row d below no_writer member sure (row_at S i == row) refl;
+  }
+    where
+      later : List Entry
+      later = journal ++ record { stamp = n; event = Ack i Done } ∷ []
+      lt : k < length c.clients
+      lt = there_busy c k i left Written here
+      job : IsJob S k i Written
+      job = of_job S c k i left Written mine here
+      a_write : is_write S i ≡ true
+      a_write = fits_of S c k i left Written fits here
+      at : (row d : ℕ) → row < (the_shape S).size → NoWriter S (slice_set c.clients k (record { left = left; job = NoJob })) row → has d S.members ≡ true
+          → unsure S (journal ++ record { stamp = n; event = Ack i Done } ∷ []) row ≡ false
+          → (b : Bool) → (row_at S i == row) ≡ b → stood S log d row ≡ con S (journal ++ record { stamp = n; event = Ack i Done } ∷ []) row
+      at row d below no_writer member sure true is =
+          let same : row_at S i ≡ row = grind (arith, nat_tests, is) in
+          subst (λ z. stood S log d z ≡ con S (journal ++ record { stamp = n; event = Ack i Done } ∷ []) z) same
+            (step_vals k i left Written here d member refl ∙ sym (done_here S asks volume i job.place job.placed a_write n journal))
+      at row d below no_writer member sure false apart =
+          old.free row d below
+            (no_writer_back S c.clients k (record { left = left; job = NoJob }) row lt (λ h. ap (writes_row S row) (job_is c k left (Busy i Written) here) ∙ apart) no_writer) member
+            (sym (sure_there S asks volume i job.place job.placed a_write n journal row apart) ∙ sure)
+          ∙ sym (done_there S asks volume i job.place job.placed a_write n journal row apart)
+
+  -- A VALUE IS READ
+
+  got_vals : (k i : ℕ) (left : List ℕ) (step : JobStep) (d : ℕ) → Has c k left (Busy i step) → need_now S c k i step ≡ Reads d → got ≡ stood S log d (row_at S i)
+      → StepVals S (log ++ call d (Read (at_row S (row_at S i))) true ∷ []) (journal ++ []) i (Got got)
+  got_vals k i left step d here need gave =
+      ((λ sure. gave ∙ old.free (row_at S i) d (row_inside_size k i left step here) quiet member (sym (plain_unsure S journal [] (plain_none S volume) (row_at S i)) ∙ sure)
+          ∙ sym (plain_con S journal [] (plain_none S volume) (row_at S i))),
+       given_now S log d (row_at S i) (submitted_from i 0 (journal ++ [])) (length (log ++ call d (Read (at_row S (row_at S i))) true ∷ [])) got since
+         (omega (arith, length-append log (call d (Read (at_row S (row_at S i))) true ∷ []))) gave)
+    where
+      member : has d S.members ≡ true
+      member = subst (NeedIn S.members) need (need_in S c k i step (of_job S c k i left step mine here).inside)
+      waits : step ≡ Waiting
+      waits = reads_waits S c k i step d (needs S c k i step _ need (λ none. absurd cc))
+      quiet : NoWriter S c.clients (row_at S i)
+      quiet j = at (j == k) refl
+        where
+          at : (b : Bool) → (j == k) ≡ b → writes_row S (row_at S i) (job_of c.clients j) ≡ false
+          at true is =
+              let same : j ≡ k = grind (arith, nat_tests, is) in
+              subst (λ z. writes_row S (row_at S i) (job_of c.clients z) ≡ false) (sym same) (ap (writes_row S (row_at S i)) (job_is c k left (Busy i step) here ∙ ap (Busy i) waits))
+          at false is =
+              let unlike : j ≢ k = λ same. absurd (let yes_same : (j == k) ≡ true = grind (arith, nat_tests, same) in cc (yes_same, is)) in
+              writes_holds S (row_at S i) (job_of c.clients j) (alone_now S c k i step _ need (λ none. absurd cc) j unlike)
+      since : submitted_from i 0 (journal ++ []) ≤ length log
+      since = subst (λ z. submitted_from i 0 z ≤ length log) (sym (append-nil journal)) (subst (λ z. submitted_from i 0 journal ≤ z) count (submitted_most i 0 n journal (omega arith) stamps))

@@ -1,0 +1,6 @@
+pub mod Order
+pub mod JobKinds
+pub mod Locks
+pub mod Rows
+pub mod Values
+pub mod Law

@@ -1,0 +1,130 @@
+-- Failures: no write is acknowledged past a failure that isn't recorded, no failed call is hidden, a round forgets no
+-- healthy member, and a checkpoint counts no row that isn't done. Source: mdmon-design.txt (a write to a failed member
+-- waits until the metadata records the failure and "-blocked" is written); the rest is this project's own.
+use Rattle.std.specs.Prelude.{◌≡◌, ℕ, ◌+◌, ◌*◌, ◌/◌, ◌<◌, ◌≤◌, ◌==◌, ◌&&◌, nat_le, Bool, true, false, List, [], ◌∷◌, take, slice_get, Option, Some, None, IsSome, if◌then◌else◌, ⊤, ◌⊎◌}
+use Rattle.std.specs.List.{list_any}
+use Rattle.device_log.specs.Log.{Call, Read}
+use Rattle.array_model.specs.declared.script.Op.{Op}
+use Rattle.array_model.specs.declared.journal.Entry.{Entry}
+use Rattle.array_model.specs.declared.journal.Event.{Event}
+use Rattle.array_model.specs.declared.journal.Event.TheVariants.{Begin, Pass, Ack, Applied, Fault, Kill, Takeover}
+use Rattle.array_model.specs.Script.{Target, write_at, kind_at, names_sector}
+use Rattle.array_model.specs.Events.{AtEach, has, is_submit, is_done, is_fault, is_faulty, last_stamp}
+use Rattle.array_model.specs.Moments.{IsMoment, EachCall}
+use Rattle.array_model.specs.Placement.{Place, place_of}
+use Rattle.array_model.specs.Blocks.{Laid, SlotWords}
+use Rattle.array_model.specs.Rounds.{IsFinished, IsRound, DurableOnWorking, is_lost}
+use Rattle.array_model.specs.Start.{Start}
+
+-- ACKNOWLEDGED WRITES
+
+-- the block has disk d in this slot of a volume
+pub record HasInSlot (start : Start) (m : Laid) (v slot d : ℕ) : Type 0 where
+  pub words : SlotWords
+  pub there : slice_get (start.words.slots m v) slot ≡ Some words
+  pub same : words.serial ≡ start.disks.serial d
+
+-- the slots of a place
+abbrev pub InPlace : Start → Laid → ℕ → ℕ → Option Place → Type 0
+InPlace start m v d None = ⊥
+InPlace start m v d (Some place) = HasInSlot start m v place.main d ⊎ HasInSlot start m v place.other d
+
+-- at some moment between the submit of op i and its ack the last finished round had disk d in a slot that the write
+-- goes to
+pub record WasMeant (start : Start) (log : List Call) (front : List Entry) (i : ℕ) (target : Target) (d : ℕ) : Type 0 where
+  pub calls : ℕ
+  pub early : List Entry
+  pub late : List Entry
+  pub block : Laid
+  pub moment : IsMoment log front calls early late
+  pub submitted : has (is_submit i) early ≡ true
+  pub finished : IsFinished start (take calls log) early block
+  pub slot : InPlace start block target.volume d (place_of (start.words.shape block target.volume) target.sector)
+
+-- each such disk that has a fault is durably called failed on every working member
+abbrev pub IsRecorded : Start → List Call → List Entry → ℕ → Target → Type 0
+IsRecorded start log front i target =
+    (d : ℕ) → WasMeant start log front i target d → is_faulty d front ≡ true
+    → DurableOnWorking start log front (λ m. start.words.expects m (start.disks.serial d) ≡ false)
+
+abbrev pub IsRecordedFor : Start → List Call → List Entry → ℕ → Option Target → Type 0
+IsRecordedFor start log front i None = ⊤
+IsRecordedFor start log front i (Some target) = IsRecorded start log front i target
+
+abbrev pub AckOverFaults : Start → List Op → List Call → List Entry → Event → Type 0
+AckOverFaults start ops calls front (Ack i answer) =
+    is_done answer ≡ true → IsRecordedFor start calls front i (write_at ops i)
+AckOverFaults start ops calls front _ = ⊤
+
+-- FAILED CALLS
+
+-- the journal has a fault of the disk that isn't stamped above n
+abbrev pub has_fault_by : ℕ → ℕ → List Entry → Bool
+has_fault_by d n journal = list_any (λ e. is_fault d e.event && nat_le e.stamp n) journal
+
+-- a failed call that isn't behind the journal's end: calls are numbered from 1
+abbrev pub IsTold : List Entry → ℕ → Call → Type 0
+IsTold journal before call =
+    call.went ≡ false → before + 1 < last_stamp journal → has_fault_by call.disk (before + 1) journal ≡ true
+
+-- WHAT A ROUND KEEPS
+
+-- what the last finished round's block (before the first, the newest at opening) says of a disk, the round's says too,
+-- unless the disk has a fault
+pub record Keeps (start : Start) (front : List Entry) (last m : Laid) : Type 0 where
+  pub expected : (serial : List ℕ) → start.words.expects last serial ≡ true
+      → (start.words.expects m serial ≡ true) ⊎ (is_lost start.disks serial front ≡ true)
+  pub in_sync : (v slot : ℕ) (before : SlotWords) → start.words.is_supported last v ≡ true
+      → slice_get (start.words.slots last v) slot ≡ Some before → before.is_in_sync ≡ true
+      → ((after : SlotWords) × (slice_get (start.words.slots m v) slot ≡ Some after) × (after.is_in_sync ≡ true))
+      ⊎ (is_lost start.disks before.serial front ≡ true)
+
+abbrev pub BeginKeeps : Start → List Call → List Entry → ℕ → Event → Type 0
+BeginKeeps start log front stamp (Begin g) =
+    (m last : Laid) → IsRound start log stamp g m → IsFinished start (take stamp log) front last → Keeps start front last m
+BeginKeeps start log front stamp _ = ⊤
+
+-- UNITS
+
+-- the stamp of the volume's last pass, where no update was applied and there was no fault, kill or takeover since
+abbrev pub pass_at : ℕ → Option ℕ → ℕ → Event → Option ℕ
+pass_at v found stamp (Pass w row) = if w.0 == v then Some stamp else found
+pass_at v found stamp (Applied n) = None
+pass_at v found stamp (Fault d) = None
+pass_at v found stamp Kill = None
+pass_at v found stamp Takeover = None
+pass_at v found stamp _ = found
+
+abbrev pub pass_from : ℕ → Option ℕ → List Entry → Option ℕ
+pass_from v found [] = found
+pass_from v found (e ∷ es) = pass_from v (pass_at v found e.stamp e.event) es
+
+-- op i names no sector of the volume that lies in this row
+abbrev pub IsNotAt : Option Place → ℕ → Type 0
+IsNotAt None row = ⊤
+IsNotAt (Some place) row = place.row ≡ row → ⊥
+
+abbrev pub IsElsewhere : Start → List Op → Laid → ℕ → ℕ → Type 0
+IsElsewhere start ops m v row =
+    (i s : ℕ) (kind : _) → kind_at ops i ≡ Some kind → names_sector v kind ≡ Some s
+    → IsNotAt (place_of (start.words.shape m v) s) row
+
+-- a call that reads a row of the volume on one of its members
+pub record ReadsRow (start : Start) (m : Laid) (v row : ℕ) (call : Call) : Type 0 where
+  pub what : call.what ≡ Read ((start.words.shape m v).pba + row)
+  pub below : row < (start.words.shape m v).rows
+  pub slot : ℕ
+  pub member : HasInSlot start m v slot call.disk
+
+abbrev pub BeginCounts : Start → List Op → List Call → List Entry → ℕ → Event → Type 0
+BeginCounts start ops log front stamp (Begin g) =
+    (v since : ℕ) (m : Laid) → pass_from v None front ≡ Some since → IsRound start log stamp g m
+    → EachCall (λ before call. since ≤ before → before < stamp → (row : ℕ) → ReadsRow start m v row call
+    → IsElsewhere start ops m v row → IsSome (start.words.pass m v) → 8 * (row / 1024) ≤ start.words.unit m v) log
+BeginCounts start ops log front stamp _ = ⊤
+
+pub record FailureLaw (start : Start) (ops : List Op) (log : List Call) (journal : List Entry) : Type 0 where
+  pub acks : AtEach (λ front e. AckOverFaults start ops (take e.stamp log) front e.event) journal
+  pub calls : EachCall (λ before call. IsTold journal before call) log
+  pub keeps : AtEach (λ front e. BeginKeeps start log front e.stamp e.event) journal
+  pub units : AtEach (λ front e. BeginCounts start ops log front e.stamp e.event) journal

@@ -1,0 +1,17 @@
+pub mod Script
+pub mod Events
+pub mod Moments
+pub mod Placement
+pub mod Blocks
+pub mod Start
+pub mod Candidates
+pub mod Rounds
+pub mod Content
+pub mod Counts
+pub mod Form
+pub mod WriteGate
+pub mod FailureLaw
+pub mod Broken
+pub mod AnswerLaw
+pub mod Meaning
+pub mod Small

@@ -1,0 +1,13 @@
+//! The form of a journal, proved of every run of the machine.
+#![tactic(auto)]
+
+ghost use Rattle.array_model.specs.Form.{IsJournal};
+ghost use Rattle.stage_machine.specs.Setting.{Setting, Renews};
+ghost use Rattle.stage_machine.specs.Opens.{AsksFirst};
+ghost use Rattle.stage_machine.specs.Machine.{World, Reached};
+
+/// The journal of every run has the form of a journal: its stamps never fall and aren't above the calls made, it names
+/// operations of the script, and it keeps the counts.
+pub fn journal_law()
+    ensures { (S : Setting) (w : World) → AsksFirst S → Renews S → Reached S w → IsJournal S.start S.asked w.calls w.journal }
+{}

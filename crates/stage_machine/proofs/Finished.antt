@@ -1,0 +1,167 @@
+-- Which calls a run makes, and what the blocks have in common that it writes.
+use Rattle.std.proofs.Common.{◌≡◌, ℕ, zero, suc, ◌+◌, ◌-◌, ◌<◌, ◌≤◌, ◌==◌, ◌||◌, ◌&&◌, Bool, true, false, if◌then◌else◌, List, [], ◌∷◌, ◌++◌, length, take, drop, refl, ap, sym, ◌∙◌, subst, arith, ◌⊎◌, inl, inr, Option, Some, None}
+use Rattle.std.specs.Prelude.{⊤}
+use Rattle.std.specs.List.{AllByRecursion}
+use Rattle.std.proofs.lemmas.Bool.Decides.{nat_tests}
+use Rattle.imsm_base.specs.declared.units.Sector.{Sector}
+use Rattle.imsm_base.specs.declared.bounds.TheConstants.{METADATA_SECTORS}
+use Rattle.imsm_base.specs.Whole.{anchor_place}
+use Rattle.device_log.specs.Log.{Call, What, Read, Write, Sync}
+use Rattle.array_model.specs.declared.journal.Entry.{Entry}
+use Rattle.array_model.specs.declared.journal.Event.{Event}
+use Rattle.array_model.specs.Blocks.{Laid, Words}
+use Rattle.array_model.specs.Start.{Start, Disks}
+use Rattle.array_model.specs.Events.{up_to}
+use Rattle.array_model.specs.Candidates.{Disk, In, is_among, standing, counted, synced, disk_at, disk_called, disk_from, writes}
+use Rattle.array_model.specs.Rounds.{IsFinished, IsFinishedBy, IsRound, ended}
+use Rattle.array_model.proofs.Journals.{all-append}
+use Rattle.stage_machine.specs.Setting.{Setting, Renews, SaysSame, has}
+use Rattle.stage_machine.specs.Opens.{StandsOnAll, IsFirstVolume}
+use Rattle.stage_machine.specs.Rounds.{AtAnchor, AtSync, Phase, Rest, Going}
+use Rattle.stage_machine.specs.Jobs.{JobStep, Busy, Need, Reads, Writes, Syncs, the_shape, row_at, value_at}
+use Rattle.stage_machine.specs.Machine.{Control, need_now, World, Action, Reached, opens, goes, happens, call_of, got_of, turned, log_after}
+use Rattle.stage_machine.proofs.Turns.{Turns, turns_of, Has, Asked, anchor, settle, put, sync, get, nothing, fails, anchors, settles, ends, begins, readies, actives, cleans, rests, pasts, asks_read, asks_write, puts, syncs, gets, acks}
+use Rattle.stage_machine.proofs.Clients.{Mine, mine_reached, of_job, NeedIn, need_in, row_below, AllIn, all_in_self}
+use Rattle.stage_machine.proofs.Blocks.{IsRow, noted_row, noted_anchor}
+use Rattle.stage_machine.proofs.Stands.{Good, GoodRound, going_good, good_reached}
+use Rattle.stage_machine.proofs.Targets.{row_inside}
+
+-- CALLS
+
+-- the anchor of a good block, a row of a member, or a sync
+pub data Fine (S : Setting) (d : ℕ) : What → Type 0 where
+  fine_anchor : (m : Laid) (stored : ℕ) → has d S.targets ≡ true → Good S m → Fine S d (Write (anchor_place (S.start.disks.sectors d)) (m.anchor ∷ []) stored)
+  fine_write : (place stored : ℕ) (s : Sector) → IsRow (S.start.disks.sectors d) place → Fine S d (Write place (s ∷ []) stored)
+  fine_read : (row : ℕ) → row < (the_shape S).size → has d S.members ≡ true → Fine S d (Read ((the_shape S).pba + row))
+  fine_sync : Fine S d Sync
+
+abbrev pub IsFine : Setting → Call → Type 0
+IsFine S call = Fine S call.disk call.what
+
+-- the targets that are left are targets
+abbrev pub LeftIn : Setting → Phase → Type 0
+LeftIn S Rest = ⊤
+LeftIn S (Going m step left) = AllIn S.targets left
+
+left_turns : (S : Setting) (c : Control) (got : Sector) {call : Option Call} {es : List Event} {next : Control} → Turns S c got call es next → GoodRound S c.round → LeftIn S c.round.phase → LeftIn S next.round.phase
+left_turns S c got nothing good h = h
+left_turns S c got (fails d what asked) good h = h
+left_turns S c got (anchors m d ds is) good h = subst (LeftIn S) is h
+left_turns S c got (settles m d e ds is) good h = (subst (LeftIn S) is h).1
+left_turns S c got (ends m d is) good h = tt
+left_turns S c got (begins d ds is some why) good h = subst (AllIn S.targets) (sym good.working ∙ some) (all_in_self S.targets)
+left_turns S c got (readies is s t) good h = h
+left_turns S c got (actives is s t r) good h = h
+left_turns S c got (cleans is s t) good h = h
+left_turns S c got (rests t calm) good h = h
+left_turns S c got (pasts k i rest has none) good h = h
+left_turns S c got (asks_read k i rest place has is w live) good h = h
+left_turns S c got (asks_write k i rest place has is w live) good h = h
+left_turns S c got (puts k i left step d ds has need) good h = h
+left_turns S c got (syncs k i left step d ds has need) good h = h
+left_turns S c got (gets k i left step d has need) good h = h
+left_turns S c got (acks k i left step answer has need) good h = h
+
+module _ (S : Setting) (volume : IsFirstVolume S) (c : Control) (mine : Mine S c) (good : GoodRound S c.round) (left : LeftIn S c.round.phase) where
+  fine_put : (k i : ℕ) (more : List ℕ) (step : JobStep) (d : ℕ) (ds : List ℕ) (stored : ℕ) → Has c k more (Busy i step) → need_now S c k i step ≡ Writes d ds
+      → Fine S d (Write ((the_shape S).pba + row_at S i) (value_at S i ∷ []) stored)
+  fine_put k i more step d ds stored has need =
+      let job = of_job S c k i more step mine has in
+      let member = (subst (NeedIn S.members) need (need_in S c k i step job.inside)).0 in
+      fine_write _ stored _ (row_inside S volume c k i more step d mine has member)
+
+  fine_get : (k i : ℕ) (more : List ℕ) (step : JobStep) (d : ℕ) → Has c k more (Busy i step) → need_now S c k i step ≡ Reads d → Fine S d (Read ((the_shape S).pba + row_at S i))
+  fine_get k i more step d has need =
+      let job = of_job S c k i more step mine has in
+      fine_read (row_at S i) (row_below S volume.level i job.place job.placed) (subst (NeedIn S.members) need (need_in S c k i step job.inside))
+
+  fine_asked : (d : ℕ) (what : What) → Asked S c d what → Fine S d what
+  fine_asked _ _ (anchor m d ds stored is) = fine_anchor m stored (subst (LeftIn S) is left).0 (going_good S c.round m AtAnchor (d ∷ ds) good is)
+  fine_asked _ _ (settle m d ds is) = fine_sync
+  fine_asked _ _ (put k i more step d ds stored has need) = fine_put k i more step d ds stored has need
+  fine_asked _ _ (sync k i more step d ds has need) = fine_sync
+  fine_asked _ _ (get k i more step d has need) = fine_get k i more step d has need
+
+  fine_turns : (log : List Call) (got : Sector) {call : Option Call} {es : List Event} {next : Control} → Turns S c got call es next → AllByRecursion (IsFine S) log → AllByRecursion (IsFine S) (log_after log call)
+  fine_turns log got nothing h = h
+  fine_turns log got (fails d what asked) h = all-append (IsFine S) log _ h (fine_asked d what asked, tt)
+  fine_turns log got (anchors m d ds is) h = all-append (IsFine S) log _ h (fine_anchor m 1 (subst (LeftIn S) is left).0 (going_good S c.round m AtAnchor (d ∷ ds) good is), tt)
+  fine_turns log got (settles m d e ds is) h = all-append (IsFine S) log _ h (fine_sync, tt)
+  fine_turns log got (ends m d is) h = all-append (IsFine S) log _ h (fine_sync, tt)
+  fine_turns log got (begins d ds is some why) h = h
+  fine_turns log got (readies is s t) h = h
+  fine_turns log got (actives is s t r) h = h
+  fine_turns log got (cleans is s t) h = h
+  fine_turns log got (rests t calm) h = h
+  fine_turns log got (pasts k i rest has none) h = h
+  fine_turns log got (asks_read k i rest place has is w live) h = h
+  fine_turns log got (asks_write k i rest place has is w live) h = h
+  fine_turns log got (puts k i more step d ds has need) h = all-append (IsFine S) log _ h (fine_put k i more step d ds 1 has need, tt)
+  fine_turns log got (syncs k i more step d ds has need) h = all-append (IsFine S) log _ h (fine_sync, tt)
+  fine_turns log got (gets k i more step d has need) h = all-append (IsFine S) log _ h (fine_get k i more step d has need, tt)
+  fine_turns log got (acks k i more step answer has need) h = h
+
+pub left_reached : (S : Setting) → Renews S → StandsOnAll S → (w : World) → Reached S w → LeftIn S w.control.round.phase
+left_reached S renews on w opens = tt
+left_reached S renews on w (goes {w = v} r a) = left_turns S v.control (got_of a) (turns_of S v.control a) (good_reached S renews on v r) (left_reached S renews on v r)
+
+pub fine_reached : (S : Setting) → Renews S → StandsOnAll S → IsFirstVolume S → (w : World) → Reached S w → AllByRecursion (IsFine S) w.log
+fine_reached S renews on volume w opens = tt
+fine_reached S renews on volume w (goes {w = v} r a) =
+    fine_turns S volume v.control (mine_reached S v r) (good_reached S renews on v r) (left_reached S renews on v r) v.log (got_of a) (turns_of S v.control a) (fine_reached S renews on volume v r)
+
+-- BLOCKS
+
+all_drop : (S : Setting) (n : ℕ) (log : List Call) → AllByRecursion (IsFine S) log → AllByRecursion (IsFine S) (drop n log)
+all_drop S zero log h = h
+all_drop S (suc n) [] h = tt
+all_drop S (suc n) (x ∷ log) h = all_drop S n log h.1
+
+pub all_take : (S : Setting) (n : ℕ) (log : List Call) → AllByRecursion (IsFine S) log → AllByRecursion (IsFine S) (take n log)
+all_take S zero log h = tt
+all_take S (suc n) [] h = tt
+all_take S (suc n) (x ∷ log) h = (h.0, all_take S n log h.1)
+
+in_all : (P : Laid → Type 0) (m : Laid) (ms : List Laid) → In m ms → AllByRecursion P ms → P m
+in_all P m [] i h = absurd i
+in_all P m (x ∷ xs) (inl same) h = subst P (sym same) h.0
+in_all P m (x ∷ xs) (inr i) h = in_all P m xs i h.1
+
+counted_known : (S : Setting) (k : Disk) (m : Laid) (b : Bool) → (counted S.start.words k m b).known ≡ k.known
+counted_known S k m true = refl
+counted_known S k m false = refl
+
+module _ (S : Setting) (volume : IsFirstVolume S) where
+  -- the blocks known of a disk, after a fine call on it
+  known_at : (d : ℕ) (k : Disk) (what : What) (went : Bool) → Fine S d what → AllByRecursion (Good S) k.known
+      → AllByRecursion (Good S) (disk_at S.start.words (S.start.disks.serial d) (S.start.disks.sectors d) k what went).known
+  known_at d k _ went (fine_anchor m stored target good) h =
+      let room = volume.room d target in
+      let is = noted_anchor S.start.words (S.start.disks.serial d) (S.start.disks.sectors d) k m stored went (omega (arith, room)) good.alone in
+      subst (AllByRecursion (Good S)) (sym (ap (λ (x : Disk). x.known) is)) (good, h)
+  known_at d k _ went (fine_write place stored s row) h =
+      subst (AllByRecursion (Good S)) (sym (ap (λ (x : Disk). x.known) (noted_row S.start.words (S.start.disks.serial d) (S.start.disks.sectors d) k place stored s went row))) h
+  known_at d k _ went (fine_read row below member) h = h
+  known_at d k _ true fine_sync h =
+      let m = standing S.start.words (S.start.disks.sectors d) k.cells in
+      subst (AllByRecursion (Good S)) (sym (counted_known S k m (S.start.words.is_whole (S.start.disks.serial d) (S.start.disks.sectors d) m && is_among m k.known))) h
+  known_at d k _ false fine_sync h = h
+
+  known_from : (d : ℕ) (k : Disk) (log : List Call) → AllByRecursion (IsFine S) log → AllByRecursion (Good S) k.known → AllByRecursion (Good S) (disk_from S.start.words S.start.disks d k log).known
+  known_from d k [] fine h = h
+  known_from d k (x ∷ log) fine h = known_from d (disk_called S.start.words S.start.disks d k x) log fine.1 (at (x.disk == d) refl)
+    where
+      at : (b : Bool) → (x.disk == d) ≡ b → AllByRecursion (Good S) (if b then disk_at S.start.words (S.start.disks.serial d) (S.start.disks.sectors d) k x.what x.went else k).known
+      at true is = let here : x.disk ≡ d = grind (arith, nat_tests, is) in known_at d k x.what x.went (subst (λ z. Fine S z x.what) here fine.0) h
+      at false is = h
+
+  -- the block of the last finished round is a good one
+  pub finished_good : StandsOnAll S → (log : List Call) (journal : List Entry) (m : Laid) → AllByRecursion (IsFine S) log → IsFinished S.start log journal m → SaysSame S.start.words m S.start.newest
+  finished_good on log journal m fine finished = at (ended journal) finished
+    where
+      at : (g : Option ℕ) → IsFinishedBy S.start log journal m g → SaysSame S.start.words m S.start.newest
+      at None is = subst (λ z. SaysSame S.start.words z S.start.newest) (sym is) (record { container = refl; expects = λ serial. refl; is_supported = λ v. refl; pass = λ v. refl; slots = λ v. refl })
+      at (Some g) (stamp, begun, round) =
+          (in_all (Good S) m (writes S.start.words S.start.disks round.disk (drop stamp log)) round.written
+            (known_from round.disk _ (drop stamp log) (all_drop S stamp log fine) tt)).same
+

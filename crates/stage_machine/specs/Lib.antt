@@ -1,0 +1,7 @@
+pub mod Setting
+pub mod Rounds
+pub mod States
+pub mod Jobs
+pub mod Machine
+pub mod Worked
+pub mod Opens

@@ -1,0 +1,55 @@
+-- How a run of the machine opens: the first form of a container, of one clean volume of two copies. Source: this
+-- project's own.
+use Rattle.std.specs.Prelude.{◌≡◌, ℕ, ◌+◌, ◌<◌, ◌≤◌, Bool, true, false, List, [], ◌∷◌, Some, None, ⊤}
+use Rattle.std.specs.List.{AllByRecursion}
+use Rattle.imsm_base.specs.declared.bounds.TheConstants.{METADATA_SECTORS}
+use Rattle.imsm_base.specs.declared.units.Level.TheVariants.{One}
+use Rattle.device_log.specs.Cells.{resting}
+use Rattle.array_model.specs.declared.script.OpKind.{OpKind}
+use Rattle.array_model.specs.declared.script.OpKind.TheVariants.{Write as OpWrite, Read as OpRead, Whole as OpWhole}
+use Rattle.array_model.specs.Candidates.{standing}
+use Rattle.array_model.specs.FailureLaw.{HasInSlot}
+use Rattle.stage_machine.specs.Setting.{Setting, Renews, has}
+use Rattle.stage_machine.specs.Jobs.{the_shape}
+
+-- it reads or writes volume 0
+abbrev pub IsInFirst : OpKind → Type 0
+IsInFirst (OpWrite v s value) = v.0 ≡ 0
+IsInFirst (OpRead v s) = v.0 ≡ 0
+IsInFirst (OpWhole v) = ⊤
+
+-- the script: clients 0 to 15, and volume 0
+pub record AsksFirst (S : Setting) : Type 0 where
+  pub clients : AllByRecursion (λ op. op.client < 16) S.asked.ops
+  pub volumes : AllByRecursion (λ op. IsInFirst op.kind) S.asked.ops
+
+-- the newest block stands on each disk that it expects, in one sector, and is whole there
+pub record StandsOnAll (S : Setting) : Type 0 where
+  pub alone : S.start.words.extra S.start.newest.anchor ≡ 0
+  pub short : S.start.newest.extended ≡ []
+  pub expected : (d : ℕ) → S.start.words.expects S.start.newest (S.start.disks.serial d) ≡ has d S.targets
+  pub stands : (d : ℕ) → has d S.targets ≡ true
+      → standing S.start.words (S.start.disks.sectors d) (λ p. resting (S.start.disks.opening d p)) ≡ S.start.newest
+  pub whole : (d : ℕ) → has d S.targets ≡ true
+      → S.start.words.is_whole (S.start.disks.serial d) (S.start.disks.sectors d) S.start.newest ≡ true
+
+-- a slot of the volume, in sync in the newest block
+pub record IsMember (S : Setting) (d : ℕ) : Type 0 where
+  pub target : has d S.targets ≡ true
+  pub slot : ℕ
+  pub member : HasInSlot S.start S.start.newest 0 slot d
+  pub in_sync : member.words.is_in_sync ≡ true
+
+-- the volume is of two copies, started and clean, and its rows end before the sectors that are kept for metadata
+pub record IsFirstVolume (S : Setting) : Type 0 where
+  pub level : (the_shape S).level ≡ Some One
+  pub rows : (the_shape S).size ≤ (the_shape S).rows
+  pub started : S.start.is_started 0 ≡ true
+  pub members : (d : ℕ) → has d S.members ≡ true → IsMember S d
+  pub room : (d : ℕ) → has d S.targets ≡ true → (the_shape S).pba + (the_shape S).rows + METADATA_SECTORS ≤ S.start.disks.sectors d
+
+-- each member holds the content of each sector that isn't unsure
+abbrev pub HoldsContent : Setting → Type 0
+HoldsContent S =
+    (s d : ℕ) → s < (the_shape S).size → S.start.unsure 0 s ≡ false → has d S.members ≡ true
+    → S.start.disks.opening d ((the_shape S).pba + s) ≡ S.start.content 0 s
