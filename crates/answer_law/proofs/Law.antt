@@ -15,6 +15,8 @@ use Rattle.array_model.specs.declared.journal.Event.TheVariants.{Submit, Ack}
 use Rattle.array_model.specs.declared.journal.Answer.{Answer}
 use Rattle.array_model.specs.declared.journal.Answer.TheVariants.{Done, Value, Past, Failed, NoSpare}
 use Rattle.array_model.specs.Script.{kind_at, is_of_client}
+use Rattle.imsm_base.specs.Whole.{anchor_place}
+use Rattle.array_model.specs.Blocks.{Laid}
 use Rattle.array_model.specs.Placement.{Place, place_of}
 use Rattle.array_model.specs.Events.{AtEach, AtEachFrom, has as has_event, is_submit}
 use Rattle.array_model.specs.Moments.{AllBelow}
@@ -276,3 +278,159 @@ module _ (S : Setting) (asks : AsksFirst S) (volume : IsFirstVolume S) (log : Li
               writes_holds S (row_at S i) (job_of c.clients j) (alone_now S c k i step _ need (λ none. absurd cc) j unlike)
       since : submitted_from i 0 (journal ++ []) ≤ length log
       since = subst (λ z. submitted_from i 0 z ≤ length log) (sym (append-nil journal)) (subst (λ z. submitted_from i 0 journal ≤ z) count (submitted_most i 0 n journal (omega arith) stamps))
+
+  -- ALL TURNS
+
+  same_none : (new : List Entry) → Plain S new → ((i : ℕ) → has_event (is_submit i) new ≡ false) → Vals S log (journal ++ new) c.clients
+  same_none new plain none = calm_same S volume log journal c mine old None new (calm_none S volume log new plain) none
+
+  same_call : (e : ℕ) (what : What) (went : Bool) (new : List Entry) → ((row d : ℕ) → row < (the_shape S).size → has d S.members ≡ true → e ≡ d → Spares (at_row S row) what)
+      → Plain S new → ((i : ℕ) → has_event (is_submit i) new ≡ false) → Vals S (log ++ call e what went ∷ []) (journal ++ new) c.clients
+  same_call e what went new spares plain none = calm_same S volume log journal c mine old (Some (call e what went)) new (calm_call S volume log e what went new spares plain) none
+
+  -- a client with no job submits an operation
+  submits : (new : List Entry) (k i : ℕ) (rest : List ℕ) (job : Job) → Has c k (i ∷ rest) NoJob → Plain S new → ((m : ℕ) → (i == m) ≡ false → has_event (is_submit m) new ≡ false)
+      → JobVals S log (journal ++ new) job → Vals S log (journal ++ new) (slice_set c.clients k (record { left = rest; job = job }))
+  submits new k i rest job here plain none vals =
+      calm_set S volume log journal c mine old None new (calm_none S volume log new plain) k (record { left = rest; job = job }) (there_left c k i rest NoJob here)
+        (λ j apart m step is. none m (not_submitted S c k i rest mine here j apart m step is))
+        vals
+        (λ row h. ap (writes_row S row) (job_is c k (i ∷ rest) NoJob here))
+
+  anchor_away : (m : Laid) (e : ℕ) (row d : ℕ) → row < (the_shape S).size → has d S.members ≡ true → e ≡ d → Spares (at_row S row) (Write (anchor_place (S.start.disks.sectors e)) (m.anchor ∷ []) 1)
+  anchor_away m e row d below member same =
+      subst (λ z. Spares (at_row S row) (Write (anchor_place (S.start.disks.sectors z)) (m.anchor ∷ []) 1)) (sym same) (anchor_spares S volume d row 1 m.anchor below (volume.members d member).target)
+
+  -- a value is answered
+  vals_value : (k i : ℕ) (left : List ℕ) (v : Sector) → Has c k left (Busy i (Got v))
+      → Vals S log (journal ++ record { stamp = n; event = Ack i (Value v) } ∷ []) (slice_set c.clients k (record { left = left; job = NoJob }))
+  vals_value k i left v here =
+      calm_set S volume log journal c mine old None (record { stamp = n; event = Ack i (Value v) } ∷ []) (calm_none S volume log (record { stamp = n; event = Ack i (Value v) } ∷ []) (record { content_same = λ row x. refl; none_done = λ row. refl })) k
+        (record { left = left; job = NoJob }) (there_busy c k i left (Got v) here)
+        (λ j apart m step is. refl) tt
+        (λ row h. ap (writes_row S row) (job_is c k left (Busy i (Got v)) here))
+
+  vals_acks : (k i : ℕ) (left : List ℕ) (step : JobStep) (answer : Answer) → Has c k left (Busy i step) → need_now S c k i step ≡ Answers answer
+      → Vals S log (journal ++ record { stamp = n; event = Ack i answer } ∷ []) (slice_set c.clients k (record { left = left; job = NoJob }))
+  vals_acks k i left step answer here need = elim (answers_from S c k i step answer (needs S c k i step _ need (λ none. absurd cc))) [
+    | inl done ↦
+        let written : Has c k left (Busy i Written) = subst (λ z. Has c k left (Busy i z)) done.0 here in
+        let need_done : need_now S c k i Written ≡ Answers Done = subst (λ z. need_now S c k i z ≡ Answers Done) done.0 (need ∙ ap Answers done.1) in
+        subst (λ z. Vals S log (journal ++ record { stamp = n; event = Ack i z } ∷ []) (slice_set c.clients k (record { left = left; job = NoJob }))) (sym done.1) (vals_done k i left written need_done)
+    | inr value ↦
+        let has_value : Has c k left (Busy i (Got value.0)) = subst (λ z. Has c k left (Busy i z)) value.1 here in
+        subst (λ z. Vals S log (journal ++ record { stamp = n; event = Ack i z } ∷ []) (slice_set c.clients k (record { left = left; job = NoJob }))) (sym value.2) (vals_value k i left value.0 has_value)
+  ]
+
+  plain_state : (i : ℕ) (state : State) → Plain S (record { stamp = n; event = Submit i } ∷ stamped n (asked_events state))
+  plain_state i IsReadonly = record { content_same = λ row x. refl; none_done = λ row. refl }
+  plain_state i IsReadAuto = record { content_same = λ row x. refl; none_done = λ row. refl }
+  plain_state i IsClean = record { content_same = λ row x. refl; none_done = λ row. refl }
+  plain_state i IsPending = record { content_same = λ row x. refl; none_done = λ row. refl }
+  plain_state i IsActive = record { content_same = λ row x. refl; none_done = λ row. refl }
+  plain_state i IsIdle = record { content_same = λ row x. refl; none_done = λ row. refl }
+
+  one_submit : (i : ℕ) (state : State) (m : ℕ) → (i == m) ≡ false → has_event (is_submit m) (record { stamp = n; event = Submit i } ∷ stamped n (asked_events state)) ≡ false
+  one_submit i IsReadonly m apart = rw apart refl
+  one_submit i IsReadAuto m apart = rw apart refl
+  one_submit i IsClean m apart = rw apart refl
+  one_submit i IsPending m apart = rw apart refl
+  one_submit i IsActive m apart = rw apart refl
+  one_submit i IsIdle m apart = rw apart refl
+
+  pub vals_turns : {call : Option Call} {es : List Event} {next : Control} → Turns S c got call es next → GaveOf S log got call → next.failed ≡ None
+      → Vals S (log_after log call) (journal ++ stamped (calls_after n call) es) next.clients
+  vals_turns nothing gave alive = same_none [] (plain_none S volume) (λ i. refl)
+  vals_turns (fails d what asked) gave alive = absurd cc
+  vals_turns (anchors m d ds is) gave alive = same_call d _ true [] (anchor_away m d) (plain_none S volume) (λ i. refl)
+  vals_turns (settles m d e ds is) gave alive = same_call d Sync true [] (λ row x below member same. spares_sync) (plain_none S volume) (λ i. refl)
+  vals_turns (ends m d is) gave alive = same_call d Sync true _ (λ row x below member same. spares_sync) (record { content_same = λ row x. refl; none_done = λ row. refl }) (λ i. refl)
+  vals_turns (begins d ds is some why) gave alive = same_none _ (record { content_same = λ row x. refl; none_done = λ row. refl }) (λ i. refl)
+  vals_turns (readies is s t) gave alive = same_none _ (record { content_same = λ row x. refl; none_done = λ row. refl }) (λ i. refl)
+  vals_turns (actives is s t r) gave alive = same_none _ (record { content_same = λ row x. refl; none_done = λ row. refl }) (λ i. refl)
+  vals_turns (cleans is s t) gave alive = same_none _ (record { content_same = λ row x. refl; none_done = λ row. refl }) (λ i. refl)
+  vals_turns (rests t calm) gave alive = same_none _ (record { content_same = λ row x. refl; none_done = λ row. refl }) (λ i. refl)
+  vals_turns (pasts k i rest here none) gave alive =
+      submits (record { stamp = n; event = Submit i } ∷ record { stamp = n; event = Ack i Past } ∷ []) k i rest NoJob here (record { content_same = λ row x. refl; none_done = λ row. refl }) (λ m apart. rw apart refl) tt
+  vals_turns (asks_read k i rest place here is w ready) gave alive =
+      submits (record { stamp = n; event = Submit i } ∷ []) k i rest (Busy i Waiting) here (record { content_same = λ row x. refl; none_done = λ row. refl }) (λ m apart. rw apart refl) tt
+  vals_turns (asks_write k i rest place here is w ready) gave alive =
+      submits (record { stamp = n; event = Submit i } ∷ stamped n (asked_events c.state)) k i rest (Busy i Waiting) here (plain_state i c.state) (one_submit i c.state) tt
+  vals_turns (puts k i left step d ds here need) gave alive = vals_put k i left step d ds here need
+  vals_turns (syncs k i left step d ds here need) gave alive =
+      let before = written_all S c k i log journal step d ds (needs S c k i step _ need (λ none. absurd cc)) (step_vals k i left step here) in
+      let calm = calm_call S volume log d Sync true [] (λ row x below member same. spares_sync) (plain_none S volume) in
+      calm_set S volume log journal c mine old (Some (call d Sync true)) [] calm k (record { left = left; job = Busy i (after_sync ds) }) (there_busy c k i left step here)
+        (λ j apart m other is. refl)
+        (after_sync_vals (log ++ call d Sync true ∷ []) (journal ++ []) i ds (λ x member out. calm.stood_same (row_at S i) x (row_inside_size k i left step here) member ∙ before x member out))
+        (λ row h. ap (writes_row S row) (job_is c k left (Busy i step) here) ∙ writes_own S row i step (sym (writes_after_sync S row i ds) ∙ h))
+  vals_turns (gets k i left step d here need) gave alive =
+      let waits = reads_waits S c k i step d (needs S c k i step _ need (λ none. absurd cc)) in
+      calm_set S volume log journal c mine old (Some (call d (Read (at_row S (row_at S i))) true)) [] (calm_call S volume log d (Read (at_row S (row_at S i))) true [] (λ row x below member same. spares_read _) (plain_none S volume)) k
+        (record { left = left; job = Busy i (Got got) }) (there_busy c k i left step here)
+        (λ j apart m other is. refl)
+        (got_vals k i left step d here need (gave (at_row S (row_at S i)) refl refl))
+        (λ row h. ap (writes_row S row) (job_is c k left (Busy i step) here ∙ ap (Busy i) waits))
+  vals_turns (acks k i left step answer here need) gave alive = vals_acks k i left step answer here need
+
+  -- AN ANSWER
+
+  value_of : (k i : ℕ) (left : List ℕ) (v : Sector) → Has c k left (Busy i (Got v)) → ValueOf S.start S.asked.ops log journal n i v (kind_at S.asked.ops i)
+  value_of k i left v here = by (kind_at S.asked.ops i) refl (fits_of S c k i left (Got v) fits here)
+    where
+      job : IsJob S k i (Got v)
+      job = of_job S c k i left (Got v) mine here
+      vals : StepVals S log journal i (Got v)
+      vals = step_vals k i left (Got v) here
+      at : (b : Bool) → unsure S journal (row_at S i) ≡ b → (place_of (the_shape S) (row_at S i) ≡ Some job.place) → IsValue S.start S.asked.ops log journal n i 0 (row_at S i) v b
+      at false sure place = vals.0 sure
+      at true doubt place =
+          let row : row_at S i ≡ job.place.row = ap row_in job.placed in
+          subst (λ p. IsGivenAt S.start log 0 p (submitted_from i 0 journal) n v) (sym place)
+            (inl (subst (λ z. IsGiven S.start log 0 z (submitted_from i 0 journal) n v) row (subst (λ z. IsGiven S.start log 0 (row_at S i) (submitted_from i 0 journal) z v) (sym count) vals.1)))
+      by : (kind : Option OpKind) → kind_at S.asked.ops i ≡ kind → is_read_kind kind ≡ true → ValueOf S.start S.asked.ops log journal n i v kind
+      by None is r = absurd cc
+      by (Some (OpWrite w s value)) is r = absurd cc
+      by (Some (OpRead w s)) is r =
+          let zero_is : w.0 ≡ 0 = kind_first S.asked.ops i (OpRead w s) asks.volumes is in
+          let sector : row_at S i ≡ s = row_is S volume.level i job.place job.placed ∙ ap sector_in is in
+          let place : place_of (the_shape S) (row_at S i) ≡ Some job.place = ap (place_of (the_shape S)) (row_is S volume.level i job.place job.placed) ∙ job.placed in
+          subst (λ a. IsValue S.start S.asked.ops log journal n i a s v (is_still_unsure S.start S.asked.ops journal a s)) (sym zero_is)
+            (subst (λ b. IsValue S.start S.asked.ops log journal n i 0 b v (is_still_unsure S.start S.asked.ops journal 0 b)) sector (at (unsure S journal (row_at S i)) refl place))
+      by (Some (OpWhole w)) is r = absurd cc
+
+  values_ack : (k i : ℕ) (left : List ℕ) (step : JobStep) (answer : Answer) → Has c k left (Busy i step) → need_now S c k i step ≡ Answers answer → ValueAt S.start S.asked.ops log journal n (Ack i answer)
+  values_ack k i left step answer here need = elim (answers_from S c k i step answer (needs S c k i step _ need (λ none. absurd cc))) [
+    | inl done ↦ subst (λ z. ValueAt S.start S.asked.ops log journal n (Ack i z)) (sym done.1) tt
+    | inr value ↦
+        let has_value : Has c k left (Busy i (Got value.0)) = subst (λ z. Has c k left (Busy i z)) value.1 here in
+        subst (λ z. ValueAt S.start S.asked.ops log journal n (Ack i z)) (sym value.2) (value_of k i left value.0 has_value)
+  ]
+
+  pub values_turns : {call : Option Call} {es : List Event} {next : Control} → Turns S c got call es next
+      → AtEachFrom (λ front e. ValueAt S.start S.asked.ops (log_after log call) front e.stamp e.event) journal (stamped (calls_after n call) es)
+  values_turns nothing = tt
+  values_turns (fails d what asked) = tt
+  values_turns (anchors m d ds is) = tt
+  values_turns (settles m d e ds is) = tt
+  values_turns (ends m d is) = (tt, tt)
+  values_turns (begins d ds is some why) = (tt, tt)
+  values_turns (readies is s t) = (tt, tt)
+  values_turns (actives is s t r) = (tt, tt)
+  values_turns (cleans is s t) = (tt, tt)
+  values_turns (rests t calm) = (tt, tt)
+  values_turns (pasts k i rest here none) = (tt, (tt, tt))
+  values_turns (asks_read k i rest place here is w ready) = (tt, tt)
+  values_turns (asks_write k i rest place here is w ready) = (tt, at c.state)
+    where
+      at : (state : State) → AtEachFrom (λ front e. ValueAt S.start S.asked.ops log front e.stamp e.event) (journal ++ record { stamp = n; event = Submit i } ∷ []) (stamped n (asked_events state))
+      at IsReadonly = tt
+      at IsReadAuto = (tt, tt)
+      at IsClean = (tt, tt)
+      at IsPending = tt
+      at IsActive = tt
+      at IsIdle = tt
+  values_turns (puts k i left step d ds here need) = tt
+  values_turns (syncs k i left step d ds here need) = tt
+  values_turns (gets k i left step d here need) = tt
+  values_turns (acks k i left step answer here need) = (values_ack k i left step answer here need, tt)
