@@ -1,10 +1,7 @@
 -- The answer law over every honest run.
-use Rattle.std.proofs.Common.{◌≡◌, ◌≢◌, ℕ, zero, suc, ◌+◌, ◌<◌, ◌≤◌, ◌==◌, ◌||◌, ◌&&◌, not, Bool, true, false, List, [], ◌∷◌, ◌++◌, length, take, refl, ap, sym, ◌∙◌, subst, arith, ◌⊎◌, inl, inr, Option, Some, None, length-append}
-use Rattle.std.specs.Prelude.{⊤}
+use Rattle.std.proofs.Common.{◌≡◌, ℕ, ◌≤◌, ◌&&◌, Bool, true, false, List, [], ◌∷◌, ◌++◌, length, refl, ap, sym, ◌∙◌, subst, arith, ◌⊎◌, inl, inr, Option, Some, None}
 use Rattle.std.specs.List.{AllByRecursion}
-use Rattle.std.proofs.lemmas.List.{append-nil}
 use Rattle.imsm_base.specs.declared.units.Sector.{Sector}
-use Rattle.imsm_base.specs.declared.units.Level.TheVariants.{Five}
 use Rattle.device_log.specs.Log.{Call}
 use Rattle.device_log.specs.Cells.{resting}
 use Rattle.array_model.specs.declared.script.OpKind.{OpKind}
@@ -12,7 +9,6 @@ use Rattle.array_model.specs.declared.script.OpKind.TheVariants.{Write as OpWrit
 use Rattle.array_model.specs.declared.journal.Entry.{Entry}
 use Rattle.array_model.specs.declared.journal.Event.{Event}
 use Rattle.array_model.specs.declared.journal.Event.TheVariants.{Ack}
-use Rattle.array_model.specs.declared.journal.Answer.{Answer}
 use Rattle.array_model.specs.declared.journal.Answer.TheVariants.{Done, Value, Past, Failed, NoSpare}
 use Rattle.array_model.specs.Script.{kind_at}
 use Rattle.array_model.specs.Placement.{Place, place_of}
@@ -22,20 +18,19 @@ use Rattle.array_model.specs.Content.{is_still_unsure}
 use Rattle.array_model.specs.Candidates.{opened, opened_with, standing}
 use Rattle.array_model.specs.AnswerLaw.{AnswerLaw, ValueAt, ValueOf, IsValue, IsGivenAt, IsGivenOrXor, IsGiven, submitted_from}
 use Rattle.array_model.proofs.Journals.{at_each_more}
-use Rattle.stage_machine.specs.Setting.{Setting, Renews, has}
+use Rattle.stage_machine.specs.Setting.{Setting, Renews}
 use Rattle.stage_machine.specs.Opens.{AsksFirst, StandsOnAll, IsFirstVolume, HoldsContent}
-use Rattle.stage_machine.specs.Jobs.{Job, NoJob, Client, client_at, the_shape}
-use Rattle.stage_machine.specs.Machine.{Control, World, Action, Reached, opens, goes, Honest, opens_true, goes_true, TrueTurn, happens, begins_at, clients_of, call_of, call_unless, got_of, turned, turned_unless, turn_call, stamped, calls_after, log_after}
+use Rattle.stage_machine.specs.Jobs.{Client}
+use Rattle.stage_machine.specs.Machine.{Control, World, Action, Reached, opens, goes, Honest, opens_true, goes_true, TrueTurn, happens, clients_of, call_of, call_unless, got_of, turned, turned_unless, stamped, calls_after, log_after}
 use Rattle.stage_machine.proofs.Turns.{Turns, turns_of, nothing, fails, anchors, settles, ends, begins, readies, actives, cleans, rests, pasts, asks_read, asks_write, puts, syncs, gets, acks}
-use Rattle.stage_machine.proofs.Moments.{Counted, counted_reached}
+use Rattle.stage_machine.proofs.Moments.{counted_reached}
 use Rattle.stage_machine.proofs.Clients.{mine_reached, at_start}
 use Rattle.stage_machine.proofs.Ours.{ours_reached}
 use Rattle.stage_machine.proofs.Finished.{fine_reached}
 use Rattle.answer_law.proofs.Order.{in_order}
 use Rattle.answer_law.proofs.JobKinds.{fits_reached, whole_each, acks_reached, reads_in_sync}
-use Rattle.answer_law.proofs.Locks.{job_of}
-use Rattle.answer_law.proofs.Rows.{stood, at_row, con, unsure, given_more}
-use Rattle.answer_law.proofs.Values.{JobVals, Vals, NoWriter}
+use Rattle.answer_law.proofs.Rows.{at_row, given_more}
+use Rattle.answer_law.proofs.Values.{JobVals, Vals}
 use Rattle.answer_law.proofs.Law.{vals_turns, values_turns}
 
 pub reached_of : (S : Setting) (w : World) → Honest S w → Reached S w
@@ -55,12 +50,15 @@ value_more S log x front stamp (Ack i (Value y)) short h = by (kind_at S.asked.o
     given : (v row since : ℕ) → IsGivenOrXor S.start log v row since stamp y → IsGivenOrXor S.start (log ++ x ∷ []) v row since stamp y
     given v row since (inl one) = inl (given_more S log x v row since stamp stamp y short (omega arith) one)
     given v row since (inr (five, first, more, all, is)) = inr (five, first, more, all_given_more S log x v row since stamp (first ∷ more) short all, is)
+
     at_place : (v : ℕ) (place : Option Place) (since : ℕ) → IsGivenAt S.start log v place since stamp y → IsGivenAt S.start (log ++ x ∷ []) v place since stamp y
     at_place v None since h = h
     at_place v (Some place) since h = given v place.row since h
+
     at : (v s : ℕ) (b : Bool) → IsValue S.start S.asked.ops log front stamp i v s y b → IsValue S.start S.asked.ops (log ++ x ∷ []) front stamp i v s y b
     at v s false h = h
     at v s true h = at_place v (place_of (S.start.words.shape S.start.newest v) s) (submitted_from i 0 front) h
+
     by : (kind : Option OpKind) → ValueOf S.start S.asked.ops log front stamp i y kind → ValueOf S.start S.asked.ops (log ++ x ∷ []) front stamp i y kind
     by None h = h
     by (Some (OpWrite v s value)) h = h
@@ -144,11 +142,11 @@ module _ (S : Setting) (asks : AsksFirst S) (renews : Renews S) (on : StandsOnAl
       record {
         vals = λ alive. vals_turns S asks volume w.log w.journal c (got_of a) w.calls (mine_reached S w r) (fits_reached S w r) counted.calls counted.below (k.vals (went_on S c (got_of a) t alive)) t gave alive;
         values = at_each_more (λ front e. ValueAt S.start S.asked.ops (log_after w.log x) front e.stamp e.event) w.journal (stamped (calls_after w.calls x) es)
-          (values_before S w.log x [] w.journal below k.values)
-          (elim (goes_or_not S c a) [
-            | inl alive ↦ values_turns S asks volume w.log w.journal c (got_of a) w.calls (mine_reached S w r) (fits_reached S w r) counted.calls counted.below (k.vals alive) t
-            | inr idle ↦ subst (λ new. AtEachFrom (λ front e. ValueAt S.start S.asked.ops (log_after w.log x) front e.stamp e.event) w.journal (stamped (calls_after w.calls x) new)) (sym idle.1) tt
-          ]);
+            (values_before S w.log x [] w.journal below k.values)
+            (elim (goes_or_not S c a) [
+              | inl alive ↦ values_turns S asks volume w.log w.journal c (got_of a) w.calls (mine_reached S w r) (fits_reached S w r) counted.calls counted.below (k.vals alive) t
+              | inr idle ↦ subst (λ new. AtEachFrom (λ front e. ValueAt S.start S.asked.ops (log_after w.log x) front e.stamp e.event) w.journal (stamped (calls_after w.calls x) new)) (sym idle.1) tt
+            ]);
       }
 
   kept_honest : (w : World) → Honest S w → Kept S w
