@@ -1,10 +1,9 @@
 -- A job does what its operation asks for; and what the laws on `whole` and on reads need.
-use Rattle.std.proofs.Common.{◌≡◌, ℕ, zero, suc, ◌+◌, ◌<◌, ◌≤◌, ◌==◌, ◌||◌, Bool, true, false, if◌then◌else◌, List, [], ◌∷◌, ◌++◌, length, take, refl, ap, sym, ◌∙◌, subst, arith, ◌⊎◌, inl, inr, Option, Some, None, slice_set, slice_get}
+use Rattle.std.proofs.Common.{◌≡◌, ℕ, ◌+◌, ◌<◌, Bool, true, false, List, [], ◌∷◌, ◌++◌, take, refl, ap, sym, ◌∙◌, subst, arith, inl, inr, Option, Some, None, slice_get}
 use Rattle.std.specs.Prelude.{⊤}
 use Rattle.std.specs.List.{AllByRecursion}
 use Rattle.imsm_base.specs.declared.units.Sector.{Sector}
-use Rattle.imsm_base.specs.declared.bounds.TheConstants.{METADATA_SECTORS}
-use Rattle.device_log.specs.Log.{Call, What, Read, Write, Sync}
+use Rattle.device_log.specs.Log.{Call, What}
 use Rattle.array_model.specs.declared.script.OpKind.{OpKind}
 use Rattle.array_model.specs.declared.script.OpKind.TheVariants.{Write as OpWrite, Read as OpRead, Whole as OpWhole}
 use Rattle.array_model.specs.declared.journal.Entry.{Entry}
@@ -13,18 +12,15 @@ use Rattle.array_model.specs.declared.journal.Event.TheVariants.{Ack}
 use Rattle.array_model.specs.declared.journal.Answer.{Answer}
 use Rattle.array_model.specs.declared.journal.Answer.TheVariants.{Done, Value, Past, Failed, NoSpare}
 use Rattle.array_model.specs.Script.{kind_at}
-use Rattle.array_model.specs.Blocks.{Laid, SlotWords}
 use Rattle.array_model.specs.Events.{AtEachFrom, up_to}
 use Rattle.array_model.specs.Moments.{EachCall}
-use Rattle.array_model.specs.Rounds.{IsFinished}
-use Rattle.array_model.specs.FailureLaw.{HasInSlot}
-use Rattle.array_model.specs.AnswerLaw.{WholeAt, WholeFor, ReadsInSync, MayRead, IsSyncAt, HasRowAt}
+use Rattle.array_model.specs.AnswerLaw.{WholeAt, WholeFor, ReadsInSync, MayRead}
 use Rattle.array_model.proofs.Journals.{all-append, each_call}
-use Rattle.stage_machine.specs.Setting.{Setting, Renews, SaysSame, has}
-use Rattle.stage_machine.specs.Opens.{StandsOnAll, IsFirstVolume, IsMember}
+use Rattle.stage_machine.specs.Setting.{Setting, has}
+use Rattle.stage_machine.specs.Opens.{StandsOnAll, IsFirstVolume}
 use Rattle.stage_machine.specs.States.{State, IsReadonly, IsReadAuto, IsClean, IsPending, IsActive, IsIdle, asked_events}
-use Rattle.stage_machine.specs.Jobs.{JobStep, Waiting, Writing, Syncing, Written, Got, Job, NoJob, Busy, Client, client_at, the_shape, row_at, is_write, is_write_kind, Need, NoNeed, Reads, Writes, Syncs, Answers, need_of, first_need, read_need, write_need, sync_need, after_write, after_sync}
-use Rattle.stage_machine.specs.Machine.{Control, is_held, need_now, need_unless, World, Action, Reached, opens, goes, happens, stamped, calls_after, call_of, got_of, turned}
+use Rattle.stage_machine.specs.Jobs.{JobStep, Waiting, Writing, Syncing, Written, Got, Job, NoJob, Busy, Client, the_shape, is_write, is_write_kind, Need, NoNeed, Reads, Writes, Syncs, Answers, need_of, first_need, read_need, write_need, sync_need, after_write, after_sync}
+use Rattle.stage_machine.specs.Machine.{Control, is_held, need_now, need_unless, World, Reached, opens, goes, stamped, calls_after, call_of, got_of, turned}
 use Rattle.stage_machine.proofs.Turns.{Turns, turns_of, Has, nothing, fails, anchors, settles, ends, begins, readies, actives, cleans, rests, pasts, asks_read, asks_write, puts, syncs, gets, acks}
 use Rattle.stage_machine.proofs.Clients.{Each, each_set, there_left, there_busy, at_start}
 use Rattle.stage_machine.proofs.Ours.{AreOurs, none_faulty, ours_up_to}
@@ -96,6 +92,7 @@ need_fits S c k i step fits = at (is_held S c k i)
     by (Syncing left) h = sync_fits S i left h
     by Written h = h
     by (Got value) h = h
+
     at : (b : Bool) → NeedFits S i (need_unless S i step b)
     at true = tt
     at false = by step fits
@@ -209,6 +206,7 @@ whole_each S log front (x ∷ xs) fit = (at x.event fit.0, whole_each S log (fro
     for i Past (Some (OpWhole v)) is h = λ m finished. tt
     for i Failed (Some (OpWhole v)) is h = λ m finished. tt
     for i NoSpare (Some (OpWhole v)) is h = absurd h
+
     at : (e : Event) → AckFits S e → WholeAt S.start S.asked (take x.stamp log) front e
     at (Ack i answer) h = for i answer (kind_at S.asked.ops i) refl h
     at _ h = tt
@@ -225,16 +223,17 @@ reads_in_sync S on volume log journal ours fine =
     may before d row below member = record {
       sound = none_faulty d (up_to before journal) (ours_up_to before journal ours);
       in_sync = λ m finished.
-        let same = finished_good S volume on (take before log) (up_to before journal) m (all_take S before log fine) finished in
-        let of = volume.members d member in
-        record {
-          volume = 0;
-          row = record { started = volume.started; from = omega arith; until = let rows = volume.rows in omega (arith, below, rows) };
-          slot = of.slot;
-          member = record { words = of.member.words; there = ap (λ xs. slice_get xs of.slot) (same.slots 0) ∙ of.member.there; same = of.member.same };
-          in_sync = of.in_sync;
-        };
+          let same = finished_good S volume on (take before log) (up_to before journal) m (all_take S before log fine) finished in
+          let of = volume.members d member in
+          record {
+            volume = 0;
+            row = record { started = volume.started; from = omega arith; until = let rows = volume.rows in omega (arith, below, rows) };
+            slot = of.slot;
+            member = record { words = of.member.words; there = ap (λ xs. slice_get xs of.slot) (same.slots 0) ∙ of.member.there; same = of.member.same };
+            in_sync = of.in_sync;
+          };
     }
+
     at : (before d : ℕ) (what : What) → Fine S d what → ReadsInSync S.start log journal before d what
     at before d _ (fine_anchor m stored target good) = tt
     at before d _ (fine_write place stored s row) = tt

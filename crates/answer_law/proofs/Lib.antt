@@ -4,3 +4,4 @@ pub mod Locks
 pub mod Rows
 pub mod Values
 pub mod Law
+pub mod Runs

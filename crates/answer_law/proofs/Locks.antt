@@ -1,14 +1,13 @@
 -- No row is held by two clients.
-use Rattle.std.proofs.Common.{◌≡◌, ◌≢◌, ℕ, zero, suc, ◌+◌, ◌<◌, ◌≤◌, ◌==◌, ◌||◌, ◌&&◌, not, Bool, true, false, List, [], ◌∷◌, length, refl, ap, sym, ◌∙◌, subst, arith, ◌⊎◌, inl, inr, Option, Some, None, slice_set}
-use Rattle.std.specs.Prelude.{⊤}
+use Rattle.std.proofs.Common.{◌≡◌, ◌≢◌, ℕ, zero, suc, ◌+◌, ◌<◌, ◌==◌, ◌||◌, ◌&&◌, not, Bool, true, false, List, [], ◌∷◌, length, refl, ap, sym, ◌∙◌, subst, arith, inl, inr, Option, slice_set}
 use Rattle.std.proofs.lemmas.Bool.Decides.{nat_tests}
 use Rattle.imsm_base.specs.declared.units.Sector.{Sector}
 use Rattle.device_log.specs.Log.{Call}
 use Rattle.array_model.specs.declared.journal.Event.{Event}
 use Rattle.stage_machine.specs.Setting.{Setting}
 use Rattle.stage_machine.specs.States.{is_pending_state}
-use Rattle.stage_machine.specs.Jobs.{JobStep, Waiting, Writing, Syncing, Written, Got, Job, NoJob, Busy, Client, client_at, row_at, is_write, holds, holds_by, locked_from, is_locked, Need, NoNeed, Reads, Writes, Syncs, Answers, after_write, after_sync}
-use Rattle.stage_machine.specs.Machine.{Control, is_held, need_now, need_unless, World, Action, Reached, opens, goes, happens, call_of, got_of, turned}
+use Rattle.stage_machine.specs.Jobs.{JobStep, Waiting, Writing, Syncing, Written, Got, Job, NoJob, Busy, Client, client_at, row_at, is_write, holds, holds_by, locked_from, is_locked, Need, NoNeed}
+use Rattle.stage_machine.specs.Machine.{Control, need_now, need_unless, World, Reached, opens, goes, got_of}
 use Rattle.stage_machine.proofs.Turns.{Turns, turns_of, Has, nothing, fails, anchors, settles, ends, begins, readies, actives, cleans, rests, pasts, asks_read, asks_write, puts, syncs, gets, acks}
 use Rattle.stage_machine.proofs.Clients.{at_set, there_left, there_busy, at_start}
 
@@ -51,21 +50,21 @@ alone_now S c k i step need is some j apart =
 set_exclusive : (S : Setting) (clients : List Client) (k : ℕ) (x : Client) → k < length clients → Exclusive S clients → ((row : ℕ) → holds S row x.job ≡ true → Alone S clients k row) → Exclusive S (slice_set clients k x)
 set_exclusive S clients k x lt old alone i j row a b = elim (at_set clients k x i lt) [
   | inl here_i ↦ elim (at_set clients k x j lt) [
-      | inl here_j ↦ here_i.0 ∙ sym here_j.0
-      | inr other_j ↦ absurd (
-          let held : holds S row x.job ≡ true = sym (ap (λ (y : Client). holds S row y.job) here_i.1) ∙ a in
-          let free : holds S row (job_of clients j) ≡ false = alone row held j other_j.0 in
-          let taken : holds S row (job_of clients j) ≡ true = sym (ap (λ (y : Client). holds S row y.job) other_j.1) ∙ b in
-          cc (free, taken))
-    ]
+    | inl here_j ↦ here_i.0 ∙ sym here_j.0
+    | inr other_j ↦ absurd (
+        let held : holds S row x.job ≡ true = sym (ap (λ (y : Client). holds S row y.job) here_i.1) ∙ a in
+        let free : holds S row (job_of clients j) ≡ false = alone row held j other_j.0 in
+        let taken : holds S row (job_of clients j) ≡ true = sym (ap (λ (y : Client). holds S row y.job) other_j.1) ∙ b in
+        cc (free, taken))
+  ]
   | inr other_i ↦ elim (at_set clients k x j lt) [
-      | inl here_j ↦ absurd (
-          let held : holds S row x.job ≡ true = sym (ap (λ (y : Client). holds S row y.job) here_j.1) ∙ b in
-          let free : holds S row (job_of clients i) ≡ false = alone row held i other_i.0 in
-          let taken : holds S row (job_of clients i) ≡ true = sym (ap (λ (y : Client). holds S row y.job) other_i.1) ∙ a in
-          cc (free, taken))
-      | inr other_j ↦ old i j row (sym (ap (λ (y : Client). holds S row y.job) other_i.1) ∙ a) (sym (ap (λ (y : Client). holds S row y.job) other_j.1) ∙ b)
-    ]
+    | inl here_j ↦ absurd (
+        let held : holds S row x.job ≡ true = sym (ap (λ (y : Client). holds S row y.job) here_j.1) ∙ b in
+        let free : holds S row (job_of clients i) ≡ false = alone row held i other_i.0 in
+        let taken : holds S row (job_of clients i) ≡ true = sym (ap (λ (y : Client). holds S row y.job) other_i.1) ∙ a in
+        cc (free, taken))
+    | inr other_j ↦ old i j row (sym (ap (λ (y : Client). holds S row y.job) other_i.1) ∙ a) (sym (ap (λ (y : Client). holds S row y.job) other_j.1) ∙ b)
+  ]
 ]
 
 -- a job holds no row but that of its operation
@@ -80,7 +79,7 @@ goes_on : (S : Setting) (c : Control) (k i : ℕ) (left : List ℕ) (step next :
     → Exclusive S c.clients → Exclusive S (slice_set c.clients k (record { left = left; job = Busy i next }))
 goes_on S c k i left step next need has is some old =
     set_exclusive S c.clients k _ (there_busy c k i left step has) old
-      (λ row held. subst (Alone S c.clients k) (holds_own S i row next held) (alone_now S c k i step need is some))
+    (λ row held. subst (Alone S c.clients k) (holds_own S i row next held) (alone_now S c k i step need is some))
 
 exclusive_turns : (S : Setting) (c : Control) (got : Sector) {call : Option Call} {es : List Event} {next : Control} → Turns S c got call es next → Exclusive S c.clients → Exclusive S next.clients
 exclusive_turns S c got nothing old = old

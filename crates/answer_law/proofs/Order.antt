@@ -1,9 +1,8 @@
 -- Each client's operations are submitted and answered one by one.
-use Rattle.std.proofs.Common.{◌≡◌, ◌≢◌, ℕ, zero, suc, ◌+◌, ◌<◌, ◌≤◌, ◌==◌, Bool, true, false, if◌then◌else◌, cond, List, [], ◌∷◌, ◌++◌, length, refl, ap, sym, ◌∙◌, subst, arith, append_assoc, ◌⊎◌, inl, inr, Option, Some, None, slice_set, slice_get}
-use Rattle.std.specs.Prelude.{⊤, filter, filter_map, flat_map}
+use Rattle.std.proofs.Common.{◌≡◌, ◌≢◌, ℕ, zero, suc, ◌<◌, ◌≤◌, ◌==◌, Bool, true, false, List, [], ◌∷◌, ◌++◌, length, refl, ap, sym, ◌∙◌, arith, append_assoc, inl, inr, Option, Some, None, slice_set, slice_get}
+use Rattle.std.specs.Prelude.{filter, flat_map}
 use Rattle.std.specs.List.{AllByRecursion, range_with_len}
 use Rattle.std.proofs.lemmas.Bool.Decides.{nat_tests}
-use Rattle.std.proofs.lemmas.List.{append-nil}
 use Rattle.std.proofs.lemmas.List.Elements.{filter_map-append}
 use Rattle.imsm_base.specs.declared.units.Sector.{Sector}
 use Rattle.device_log.specs.Log.{Call}
@@ -18,9 +17,9 @@ use Rattle.array_model.specs.AnswerLaw.{Step, step_of, steps_of, steps_due, IsIn
 use Rattle.stage_machine.specs.Setting.{Setting}
 use Rattle.stage_machine.specs.Opens.{AsksFirst}
 use Rattle.stage_machine.specs.States.{State, IsReadonly, IsReadAuto, IsClean, IsPending, IsActive, IsIdle, asked_events}
-use Rattle.stage_machine.specs.Jobs.{JobStep, Waiting, Job, NoJob, Busy, Client, client_at, ops_of}
-use Rattle.stage_machine.specs.Machine.{Control, World, Action, Reached, opens, goes, happens, stamped, calls_after, call_of, got_of, turned}
-use Rattle.stage_machine.proofs.Turns.{Turns, turns_of, Has, nothing, fails, anchors, settles, ends, begins, readies, actives, cleans, rests, pasts, asks_read, asks_write, puts, syncs, gets, acks}
+use Rattle.stage_machine.specs.Jobs.{Waiting, Job, NoJob, Busy, Client, client_at}
+use Rattle.stage_machine.specs.Machine.{Control, World, Reached, opens, goes, happens, stamped, calls_after, call_of, got_of, turned}
+use Rattle.stage_machine.proofs.Turns.{Turns, turns_of, nothing, fails, anchors, settles, ends, begins, readies, actives, cleans, rests, pasts, asks_read, asks_write, puts, syncs, gets, acks}
 use Rattle.stage_machine.proofs.Clients.{Mine, mine_reached, of_left, of_job, at_set, there_left, there_busy, at_start}
 
 abbrev ask : ℕ → Step
@@ -107,26 +106,26 @@ module _ (S : Setting) (n : ℕ) where
   todo_turns c got mine (pasts k i rest has none) j =
       let is_mine = of_left S c k i rest NoJob mine has in
       set_todo c k (record { left = i ∷ rest; job = NoJob }) (record { left = rest; job = NoJob }) (Submit i ∷ Ack i Past ∷ []) has (there_left c k i rest NoJob has)
-        (rw (submit_mine k i is_mine, ack_mine k i Past is_mine) refl)
-        (λ j apart. let other = not_other S.asked.ops j k i is_mine apart in rw (submit_other j i other, ack_other j i Past other) refl) j
+      (rw (submit_mine k i is_mine, ack_mine k i Past is_mine) refl)
+      (λ j apart. let other = not_other S.asked.ops j k i is_mine apart in rw (submit_other j i other, ack_other j i Past other) refl) j
   todo_turns c got mine (asks_read k i rest place has is w ready) j =
       let is_mine = of_left S c k i rest NoJob mine has in
       set_todo c k (record { left = i ∷ rest; job = NoJob }) (record { left = rest; job = Busy i Waiting }) (Submit i ∷ []) has (there_left c k i rest NoJob has)
-        (rw (submit_mine k i is_mine) refl)
-        (λ j apart. rw (submit_other j i (not_other S.asked.ops j k i is_mine apart)) refl) j
+      (rw (submit_mine k i is_mine) refl)
+      (λ j apart. rw (submit_other j i (not_other S.asked.ops j k i is_mine apart)) refl) j
   todo_turns c got mine (asks_write k i rest place has is w ready) j =
       let is_mine = of_left S c k i rest NoJob mine has in
       set_todo c k (record { left = i ∷ rest; job = NoJob }) (record { left = rest; job = Busy i Waiting }) (Submit i ∷ asked_events c.state) has (there_left c k i rest NoJob has)
-        (rw (submit_mine k i is_mine, with_state k c.state) refl)
-        (λ j apart. rw (submit_other j i (not_other S.asked.ops j k i is_mine apart), with_state j c.state) refl) j
+      (rw (submit_mine k i is_mine, with_state k c.state) refl)
+      (λ j apart. rw (submit_other j i (not_other S.asked.ops j k i is_mine apart), with_state j c.state) refl) j
   todo_turns c got mine (puts k i left step d ds has need) j = set_todo c k _ (record { left = left; job = Busy i _ }) [] has (there_busy c k i left step has) refl (λ j apart. refl) j
   todo_turns c got mine (syncs k i left step d ds has need) j = set_todo c k _ (record { left = left; job = Busy i _ }) [] has (there_busy c k i left step has) refl (λ j apart. refl) j
   todo_turns c got mine (gets k i left step d has need) j = set_todo c k _ (record { left = left; job = Busy i _ }) [] has (there_busy c k i left step has) refl (λ j apart. refl) j
   todo_turns c got mine (acks k i left step answer has need) j =
       let is_mine = (of_job S c k i left step mine has).mine in
       set_todo c k (record { left = left; job = Busy i step }) (record { left = left; job = NoJob }) (Ack i answer ∷ []) has (there_busy c k i left step has)
-        (rw (ack_mine k i answer is_mine) refl)
-        (λ j apart. rw (ack_other j i answer (not_other S.asked.ops j k i is_mine apart)) refl) j
+      (rw (ack_mine k i answer is_mine) refl)
+      (λ j apart. rw (ack_other j i answer (not_other S.asked.ops j k i is_mine apart)) refl) j
 
 -- a client past the last has no operations
 none_past : (ops : List Op) (k : ℕ) → 16 ≤ k → AllByRecursion (λ op. op.client < 16) ops → (i : ℕ) → is_of_client ops k i ≡ false

@@ -1,36 +1,29 @@
 -- What stands at a row of a member, from call to call; and what the journal says of the row.
-use Rattle.std.proofs.Common.{◌≡◌, ◌≢◌, ℕ, zero, suc, ◌+◌, ◌-◌, ◌<◌, ◌≤◌, ◌==◌, ◌||◌, ◌&&◌, not, Bool, true, false, if◌then◌else◌, nat_lt, List, [], ◌∷◌, ◌++◌, length, take, refl, ap, sym, ◌∙◌, subst, arith, ◌⊎◌, inl, inr, Option, Some, None, slice_get, length-append}
-use Rattle.std.specs.Prelude.{⊤}
+use Rattle.std.proofs.Common.{◌≡◌, ℕ, zero, suc, ◌+◌, ◌-◌, ◌<◌, ◌≤◌, ◌==◌, ◌||◌, ◌&&◌, not, Bool, true, false, if◌then◌else◌, nat_lt, List, [], ◌∷◌, ◌++◌, length, take, refl, ap, sym, ◌∙◌, subst, arith, Option, Some, None, slice_get}
 use Rattle.std.specs.List.{AllByRecursion}
 use Rattle.std.proofs.lemmas.Bool.Decides.{nat_tests}
 use Rattle.std.proofs.lemmas.List.{take-append-le, take_all}
 use Rattle.imsm_base.specs.declared.units.Sector.{Sector}
 use Rattle.imsm_base.specs.declared.units.Level.TheVariants.{One}
-use Rattle.imsm_base.specs.declared.bounds.TheConstants.{METADATA_SECTORS}
 use Rattle.imsm_base.specs.Whole.{anchor_place}
 use Rattle.device_log.specs.Log.{Call, What, Read, Write, Sync}
-use Rattle.device_log.specs.Cells.{Cell, cell_at, cell_synced, brought}
+use Rattle.device_log.specs.Cells.{Cell, cell_at}
 use Rattle.array_model.specs.declared.script.Op.{Op}
 use Rattle.array_model.specs.declared.script.OpKind.{OpKind}
 use Rattle.array_model.specs.declared.script.OpKind.TheVariants.{Write as OpWrite, Read as OpRead, Whole as OpWhole}
 use Rattle.array_model.specs.declared.journal.Entry.{Entry}
-use Rattle.array_model.specs.declared.journal.Event.{Event}
 use Rattle.array_model.specs.declared.journal.Event.TheVariants.{Ack}
-use Rattle.array_model.specs.declared.journal.Answer.{Answer}
 use Rattle.array_model.specs.declared.journal.Answer.TheVariants.{Done}
-use Rattle.array_model.specs.Script.{Target, kind_at, write_at, target_in, target_of, is_at, is_write_to, sector_of}
+use Rattle.array_model.specs.Script.{kind_at, write_at, target_in, sector_of}
 use Rattle.array_model.specs.Placement.{Place, place_by}
 use Rattle.array_model.specs.Events.{has as has_event, is_submit}
-use Rattle.array_model.specs.Content.{content, content_from, content_at, left_by, is_rewritten, is_still_unsure, is_write_done}
+use Rattle.array_model.specs.Content.{content, content_from, content_at, is_rewritten, is_still_unsure, is_write_done}
 use Rattle.array_model.specs.AnswerLaw.{IsGiven, submitted_from}
 use Rattle.array_model.proofs.Journals.{has-append}
 use Rattle.stage_machine.specs.Setting.{Setting, has}
 use Rattle.stage_machine.specs.Opens.{AsksFirst, IsInFirst, IsFirstVolume}
 use Rattle.stage_machine.specs.Jobs.{the_shape, place_at, row_at, row_in, value_at, value_in, sector_in, is_write, is_write_kind}
-use Rattle.stage_machine.specs.Machine.{Control, stamped, log_after}
-use Rattle.stage_machine.proofs.Stands.{after}
 use Rattle.stage_machine.proofs.Targets.{disk, call, on_disk, off_disk}
-use Rattle.answer_law.proofs.JobKinds.{is_read, is_read_kind}
 
 -- the sector that stands at a row of a disk
 abbrev pub at_row : Setting → ℕ → ℕ
@@ -105,7 +98,7 @@ or_false false b h = h
 pub plain_unsure : (S : Setting) (journal new : List Entry) → Plain S new → (row : ℕ) → unsure S (journal ++ new) row ≡ unsure S journal row
 plain_unsure S journal new plain row =
     let same : is_rewritten S.asked.ops (journal ++ new) 0 row ≡ is_rewritten S.asked.ops journal 0 row =
-      has-append (is_write_done S.asked.ops 0 row) journal new ∙ or_false _ _ (plain.none_done row) in
+    has-append (is_write_done S.asked.ops 0 row) journal new ∙ or_false _ _ (plain.none_done row) in
     ap (λ b. S.start.unsure 0 row && not b) same
 
 -- OPERATIONS
@@ -160,7 +153,7 @@ module _ (S : Setting) (asks : AsksFirst S) (volume : IsFirstVolume S) (i : ℕ)
   sure_there row apart =
       let other : is_rewritten S.asked.ops done 0 row ≡ false = rw (write_is S asks volume i place placed w, apart) refl in
       let same : is_rewritten S.asked.ops (journal ++ done) 0 row ≡ is_rewritten S.asked.ops journal 0 row =
-        has-append (is_write_done S.asked.ops 0 row) journal done ∙ or_false _ _ other in
+      has-append (is_write_done S.asked.ops 0 row) journal done ∙ or_false _ _ other in
       ap (λ b. S.start.unsure 0 row && not b) same
 
 -- WHAT A READ GAVE

@@ -1,29 +1,22 @@
 -- What the members hold at each row, against the journal and the clients' jobs.
-use Rattle.std.proofs.Common.{◌≡◌, ◌≢◌, ℕ, zero, suc, ◌+◌, ◌<◌, ◌≤◌, ◌==◌, ◌||◌, ◌&&◌, not, Bool, true, false, if◌then◌else◌, List, [], ◌∷◌, ◌++◌, length, take, refl, ap, sym, ◌∙◌, subst, arith, ◌⊎◌, inl, inr, Option, Some, None, slice_set, length-append}
+use Rattle.std.proofs.Common.{◌≡◌, ℕ, ◌<◌, ◌==◌, Bool, true, false, List, [], ◌∷◌, ◌++◌, length, refl, ap, sym, ◌∙◌, subst, arith, ◌⊎◌, inl, inr, Option, Some, None, slice_set, length-append}
 use Rattle.std.specs.Prelude.{⊤}
-use Rattle.std.specs.List.{AllByRecursion}
 use Rattle.std.proofs.lemmas.Bool.Decides.{nat_tests}
 use Rattle.imsm_base.specs.declared.units.Sector.{Sector}
-use Rattle.device_log.specs.Log.{Call, What, Read, Write, Sync}
+use Rattle.device_log.specs.Log.{Call}
 use Rattle.array_model.specs.declared.script.OpKind.{OpKind}
 use Rattle.array_model.specs.declared.script.OpKind.TheVariants.{Write as OpWrite, Read as OpRead, Whole as OpWhole}
 use Rattle.array_model.specs.declared.journal.Entry.{Entry}
-use Rattle.array_model.specs.declared.journal.Event.{Event}
-use Rattle.array_model.specs.declared.journal.Event.TheVariants.{Submit, Ack}
 use Rattle.array_model.specs.declared.journal.Answer.{Answer}
-use Rattle.array_model.specs.declared.journal.Answer.TheVariants.{Done, Value, Past}
+use Rattle.array_model.specs.declared.journal.Answer.TheVariants.{Done, Value}
 use Rattle.array_model.specs.Events.{has as has_event, is_submit}
-use Rattle.array_model.specs.Moments.{AllBelow}
 use Rattle.array_model.specs.AnswerLaw.{IsGiven, submitted_from}
 use Rattle.stage_machine.specs.Setting.{Setting, has}
-use Rattle.stage_machine.specs.Opens.{AsksFirst, IsFirstVolume}
-use Rattle.stage_machine.specs.Jobs.{JobStep, Waiting, Writing, Syncing, Written, Got, Job, NoJob, Busy, Client, client_at, the_shape, row_at, value_at, is_write, holds, holds_by, Need, NoNeed, Reads, Writes, Syncs, Answers, need_of, first_need, read_need, write_need, sync_need, after_write, after_sync}
+use Rattle.stage_machine.specs.Jobs.{JobStep, Waiting, Writing, Syncing, Written, Got, Job, NoJob, Busy, Client, the_shape, row_at, value_at, holds, Need, NoNeed, Reads, Writes, Syncs, Answers, need_of, first_need, read_need, write_need, sync_need, after_write, after_sync}
 use Rattle.stage_machine.specs.Machine.{Control, is_held, need_now, need_unless, log_after}
-use Rattle.stage_machine.proofs.Turns.{Has}
-use Rattle.stage_machine.proofs.Clients.{Mine, of_job, IsJob, Each, at_set, there_left, there_busy, row_below}
-use Rattle.stage_machine.proofs.Targets.{disk, call}
-use Rattle.answer_law.proofs.Locks.{job_of, Alone, alone_now, Exclusive}
-use Rattle.answer_law.proofs.Rows.{stood, at_row, Spares, spares_write, stood_spared, stood_put, other_row, con, unsure, Plain, plain_con, plain_unsure, done_here, done_there, sure_there, given_more, submitted-append, submitted_same}
+use Rattle.stage_machine.proofs.Clients.{at_set}
+use Rattle.answer_law.proofs.Locks.{job_of}
+use Rattle.answer_law.proofs.Rows.{stood, con, unsure, given_more, submitted-append, submitted_same}
 
 -- each member but those left holds what the operation writes
 abbrev pub WrittenBut : Setting → List Call → ℕ → List ℕ → Type 0

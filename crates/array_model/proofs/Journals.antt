@@ -1,6 +1,6 @@
 -- Journals and logs that grow.
-use Rattle.std.proofs.Common.{◌≡◌, ℕ, zero, suc, ◌+◌, ◌≤◌, ◌<◌, ◌||◌, Bool, true, false, List, [], ◌∷◌, ◌++◌, length, take, refl, ap, sym, ◌∙◌, subst, arith, append_assoc}
-use Rattle.std.specs.List.{count_by, list_any, AllByRecursion}
+use Rattle.std.proofs.Common.{◌≡◌, ℕ, ◌+◌, ◌≤◌, ◌||◌, Bool, List, [], ◌∷◌, ◌++◌, length, take, sym, subst, arith, append_assoc}
+use Rattle.std.specs.List.{AllByRecursion}
 use Rattle.std.proofs.lemmas.List.{append-nil, take-append-le}
 use Rattle.std.proofs.lemmas.List.Sums.{sum_by-append}
 use Rattle.std.proofs.lemmas.List.Folds.{list_any-append}
@@ -8,7 +8,7 @@ use Rattle.device_log.specs.Log.{Call}
 use Rattle.array_model.specs.declared.journal.Entry.{Entry}
 use Rattle.array_model.specs.declared.journal.Event.{Event}
 use Rattle.array_model.specs.Events.{AtEach, AtEachFrom, has, count}
-use Rattle.array_model.specs.Moments.{AllBelow, NoneBelow, EachCall, EachCallFrom}
+use Rattle.array_model.specs.Moments.{AllBelow, EachCallFrom}
 
 pub at_each-append : (P : List Entry → Entry → Type 0) (front xs ys : List Entry) → AtEachFrom P front xs → AtEachFrom P (front ++ xs) ys → AtEachFrom P front (xs ++ ys)
 at_each-append P front [] ys old new = subst (λ f. AtEachFrom P f ys) (append-nil front) new

@@ -1,9 +1,8 @@
 -- The write gate law, kept by each turn.
-use Rattle.std.proofs.Common.{◌≡◌, ℕ, zero, suc, ◌+◌, ◌<◌, ◌≤◌, ◌==◌, ◌||◌, Bool, true, false, List, [], ◌∷◌, ◌++◌, length, take, refl, ap, sym, ◌∙◌, subst, arith, append_assoc, ◌⊎◌, inl, inr, Option, Some, None}
-use Rattle.std.specs.Prelude.{⊤}
+use Rattle.std.proofs.Common.{◌≡◌, ℕ, zero, suc, ◌==◌, Bool, true, false, List, [], ◌∷◌, ◌++◌, length, take, refl, ap, sym, ◌∙◌, subst, arith, append_assoc, ◌⊎◌, inl, inr, Option, Some, None}
 use Rattle.std.specs.List.{AllByRecursion}
 use Rattle.std.proofs.lemmas.Bool.Decides.{nat_tests}
-use Rattle.std.proofs.lemmas.List.{append-nil, take_all}
+use Rattle.std.proofs.lemmas.List.{take_all}
 use Rattle.imsm_base.specs.declared.units.Sector.{Sector}
 use Rattle.device_log.specs.Log.{Call}
 use Rattle.array_model.specs.declared.script.Op.{Op}
@@ -11,31 +10,28 @@ use Rattle.array_model.specs.declared.script.OpKind.{OpKind}
 use Rattle.array_model.specs.declared.script.OpKind.TheVariants.{Write as OpWrite, Read as OpRead, Whole as OpWhole}
 use Rattle.array_model.specs.declared.journal.Entry.{Entry}
 use Rattle.array_model.specs.declared.journal.Event.{Event}
-use Rattle.array_model.specs.declared.journal.Event.TheVariants.{Submit, Active}
-use Rattle.array_model.specs.declared.journal.Answer.{Answer}
-use Rattle.array_model.specs.declared.journal.Answer.TheVariants.{Done, Value, Past, Failed, NoSpare}
-use Rattle.array_model.specs.Script.{Target, kind_at, write_at, target_in, target_of}
-use Rattle.array_model.specs.Blocks.{Laid, Words}
-use Rattle.array_model.specs.Events.{AtEach, AtEachFrom, is_live, live_at, live_from, is_done}
-use Rattle.array_model.specs.Moments.{Always, AllBelow}
-use Rattle.array_model.specs.Candidates.{Durable, Disk}
-use Rattle.array_model.specs.Rounds.{IsFinished, IsWorking}
+use Rattle.array_model.specs.declared.journal.Event.TheVariants.{Submit}
+use Rattle.array_model.specs.Script.{kind_at, write_at, target_in}
+use Rattle.array_model.specs.Blocks.{Laid}
+use Rattle.array_model.specs.Events.{AtEach, AtEachFrom, is_live, live_at, live_from}
+use Rattle.array_model.specs.Moments.{AllBelow}
+use Rattle.array_model.specs.Candidates.{Disk}
 use Rattle.array_model.specs.WriteGate.{WriteGate, IsDirty, ActiveOver, AckWhileLive, IsLiveFor, DirtyWhileLive}
-use Rattle.array_model.proofs.Journals.{at_each_more, at_each_log, all_first, all-append}
+use Rattle.array_model.proofs.Journals.{at_each_more, at_each_log, all_first}
 use Rattle.stage_machine.specs.Setting.{Setting, Renews, has}
 use Rattle.stage_machine.specs.Opens.{AsksFirst, IsInFirst, StandsOnAll, IsFirstVolume}
-use Rattle.stage_machine.specs.Rounds.{Step, AtAnchor, AtSync, Phase, Rest, Going, Round}
+use Rattle.stage_machine.specs.Rounds.{Step, Phase, Rest, Going}
 use Rattle.stage_machine.specs.States.{State, IsReadonly, IsReadAuto, IsClean, IsPending, IsActive, IsIdle, asked_events}
-use Rattle.stage_machine.specs.Jobs.{JobStep, Waiting, Writing, Syncing, Written, Got, Busy, is_write, is_write_kind, Need, NoNeed, Reads, Writes, Syncs, Answers, need_of, first_need, write_need, read_need, sync_need}
-use Rattle.stage_machine.specs.Machine.{Control, need_now, need_unless, is_held, World, Action, Reached, opens, goes, happens, begins_at, call_of, got_of, turned, stamped, calls_after, log_after}
-use Rattle.stage_machine.proofs.Turns.{Turns, turns_of, Has, Asked, nothing, fails, anchors, settles, ends, begins, readies, actives, cleans, rests, pasts, asks_read, asks_write, puts, syncs, gets, acks}
-use Rattle.stage_machine.proofs.Moments.{always_more, always_none, EachFront, Counted, counted_reached}
+use Rattle.stage_machine.specs.Jobs.{is_write}
+use Rattle.stage_machine.specs.Machine.{Control, World, Action, Reached, opens, goes, happens, call_of, got_of, turned, stamped, calls_after, log_after}
+use Rattle.stage_machine.proofs.Turns.{Turns, turns_of, nothing, fails, anchors, settles, ends, begins, readies, actives, cleans, rests, pasts, asks_read, asks_write, puts, syncs, gets, acks}
+use Rattle.stage_machine.proofs.Moments.{always_more, always_none, EachFront, counted_reached}
 use Rattle.stage_machine.proofs.Clients.{Mine, mine_reached}
 use Rattle.stage_machine.proofs.Stands.{Settled, GoodRound, good_reached}
 use Rattle.stage_machine.proofs.Targets.{Stand, StandsIn, stand_turns, stand_reached, disk}
 use Rattle.stage_machine.proofs.Ours.{AreOurs, IsOurs, ours_reached}
 use Rattle.stage_machine.proofs.Finished.{IsFine, fine_reached, finished_good}
-use Rattle.gate_law.proofs.Live.{live, live-append, live_reached, others_dead, Safe, SafeWhileLive, safe_reached, WritesLive, writes_reached, goes_active}
+use Rattle.gate_law.proofs.Live.{live, live-append, live_reached, others_dead, safe_reached, WritesLive, writes_reached, goes_active}
 
 -- DURABLY DIRTY
 
@@ -245,15 +241,15 @@ module _ (S : Setting) (asks : AsksFirst S) (renews : Renews S) (on : StandsOnAl
       let ours : AreOurs (w.journal ++ p) = all_first (λ (e : Entry). IsOurs e.event) (w.journal ++ p) q (subst AreOurs (ap (λ z. w.journal ++ z) parts ∙ sym (append_assoc w.journal p q)) (ours_reached S (happens S w a) (goes r a))) in
       let fine = fine_reached S renews on volume (happens S w a) (goes r a) in
       let still : c.round.phase ≡ Rest → (d : ℕ) → has d S.targets ≡ true → Settled S d c.round.last (disk S (happens S w a).log d) =
-        still_turns S volume w.log c (mine_reached S w r) (good_reached S renews on w r) (stand_reached S renews on volume w r) (got_of a) t in
+      still_turns S volume w.log c (mine_reached S w r) (good_reached S renews on w r) (stand_reached S renews on volume w r) (got_of a) t in
       elim (calm_turns S c (got_of a) t) [
         | inl over ↦ dirty_live S on volume (happens S w a).log (w.journal ++ p) c.round.last fine ours (still over.rest) (λ alive. over.dirty)
         | inr calm ↦ λ v alive.
             let back : is_live 0 (w.journal ++ p) ≡ true → live c.state ≡ true = λ h.
-              calm_front es (happens S w a).calls p q (live c.state) calm parts (sym (live-append 0 false w.journal p ∙ ap (λ b. live_from 0 b p) (live_reached S w r)) ∙ h) in
+            calm_front es (happens S w a).calls p q (live c.state) calm parts (sym (live-append 0 false w.journal p ∙ ap (λ b. live_from 0 b p) (live_reached S w r)) ∙ h) in
             only_zero S (happens S w a).log (w.journal ++ p) ours (λ h.
-              let safe = safe_reached S w r (back h) in
-              dirty_at S on volume (happens S w a).log (w.journal ++ p) c.round.last fine (still safe.rest) safe.dirty) v alive
+            let safe = safe_reached S w r (back h) in
+            dirty_at S on volume (happens S w a).log (w.journal ++ p) c.round.last fine (still safe.rest) safe.dirty) v alive
       ]
     where
       only_zero : (S : Setting) (log : List Call) (journal : List Entry) → AreOurs journal → (is_live 0 journal ≡ true → IsDirty S.start log journal 0) → DirtyWhileLive S.start log journal
@@ -281,8 +277,8 @@ module _ (S : Setting) (asks : AsksFirst S) (renews : Renews S) (on : StandsOnAl
       let below : AllBelow (length v.log) v.journal = subst (λ z. AllBelow z v.journal) counted.calls counted.below in
       record {
         at_active = at_each_more (λ front e. Over S (take e.stamp (log_after v.log (call_of S c a))) front e) v.journal new
-          (actives_before S v.log (call_of S c a) v.journal below old.at_active)
-          (actives_turn S on volume v.log c (got_of a) v.calls v.journal counted.calls (fine_reached S renews on volume v r) (stand_reached S renews on volume v r) t);
+            (actives_before S v.log (call_of S c a) v.journal below old.at_active)
+            (actives_turn S on volume v.log c (got_of a) v.calls v.journal counted.calls (fine_reached S renews on volume v r) (stand_reached S renews on volume v r) t);
         at_ack = at_each_more (Acks S) v.journal new old.at_ack (acks_turn S asks c (got_of a) n v.journal (live_reached S v r) (writes_reached S v r) t);
         always = always_more (DirtyWhileLive S.start) v.log v.journal v.calls (call_of S c a) (turned S c a).events counted.calls counted.below old.always (fronts v r a);
       }

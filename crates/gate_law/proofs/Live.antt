@@ -1,22 +1,20 @@
 -- The state of the volume, by what the journal says and by what the clients do.
-use Rattle.std.proofs.Common.{◌≡◌, ℕ, zero, suc, ◌+◌, ◌<◌, ◌≤◌, ◌==◌, ◌||◌, ◌&&◌, not, Bool, true, false, if◌then◌else◌, List, [], ◌∷◌, ◌++◌, length, refl, ap, sym, ◌∙◌, subst, arith, ◌⊎◌, inl, inr, Option, Some, None, slice_set}
+use Rattle.std.proofs.Common.{◌≡◌, ℕ, zero, suc, ◌==◌, ◌||◌, ◌&&◌, Bool, true, false, List, [], ◌∷◌, ◌++◌, refl, ap, sym, ◌∙◌, subst, inl, inr, Option}
 use Rattle.std.specs.Prelude.{⊤}
-use Rattle.std.specs.List.{AllByRecursion}
 use Rattle.imsm_base.specs.declared.units.Sector.{Sector}
 use Rattle.device_log.specs.Log.{Call}
 use Rattle.array_model.specs.declared.journal.Entry.{Entry}
 use Rattle.array_model.specs.declared.journal.Event.{Event}
-use Rattle.array_model.specs.declared.journal.Event.TheVariants.{Active}
 use Rattle.array_model.specs.Events.{has, is_active, is_live, live_at, live_from}
 use Rattle.array_model.proofs.SmallFacts.{never_live}
 use Rattle.stage_machine.specs.Setting.{Setting}
 use Rattle.stage_machine.specs.Rounds.{AtAnchor, AtSync, Phase, Rest, Going}
 use Rattle.stage_machine.specs.States.{State, IsReadonly, IsReadAuto, IsClean, IsPending, IsActive, IsIdle, is_readonly, is_pending_state, asked_state, asked_events, is_due}
-use Rattle.stage_machine.specs.Jobs.{JobStep, Waiting, Writing, Syncing, Written, Got, Job, NoJob, Busy, Client, client_at, is_write, is_writing, any_writing, is_locked, row_at, Need, NoNeed, Reads, Writes, Syncs, Answers, need_of}
-use Rattle.stage_machine.specs.Machine.{Control, is_held, need_now, need_unless, World, Action, Reached, opens, goes, happens, begins_at, clients_of, call_of, got_of, turned, stamped, calls_after}
+use Rattle.stage_machine.specs.Jobs.{JobStep, Waiting, Writing, Syncing, Written, Got, Job, NoJob, Busy, Client, client_at, is_write, is_writing, any_writing, is_locked, row_at, Need, NoNeed}
+use Rattle.stage_machine.specs.Machine.{Control, need_now, need_unless, World, Reached, opens, goes, call_of, got_of, turned, stamped, calls_after}
 use Rattle.stage_machine.proofs.Turns.{Turns, turns_of, Has, nothing, fails, anchors, settles, ends, begins, readies, actives, cleans, rests, pasts, asks_read, asks_write, puts, syncs, gets, acks}
 use Rattle.stage_machine.proofs.Clients.{Each, each_set, there_left, there_busy, at_start}
-use Rattle.stage_machine.proofs.Ours.{AreOurs, IsOurs, no_active}
+use Rattle.stage_machine.proofs.Ours.{AreOurs, no_active}
 
 -- THE JOURNAL'S WORD
 
@@ -235,16 +233,16 @@ writes_turns S c got (asks_read k i rest place has is w ready) live =
     each_set (λ k client. JobWritable S c.state client.job) c.clients k _ (there_left c k i rest NoJob has) live (λ a_write. absurd cc)
 writes_turns S c got (asks_write k i rest place has is w ready) live =
     each_set (λ k client. JobWritable S (asked_state c.state) client.job) c.clients k _ (there_left c k i rest NoJob has)
-      (over S c.clients c.state (asked_state c.state) (asked_over c.state) live) (λ a_write. asked_waiting c.state ready)
+    (over S c.clients c.state (asked_state c.state) (asked_over c.state) live) (λ a_write. asked_waiting c.state ready)
 writes_turns S c got (puts k i left step d ds has need) live =
     each_set (λ k client. JobWritable S c.state client.job) c.clients k _ (there_busy c k i left step has) live
-      (λ a_write. active_any c.state _ (goes_active S c k i left step _ live has need (λ none. absurd cc) a_write))
+    (λ a_write. active_any c.state _ (goes_active S c k i left step _ live has need (λ none. absurd cc) a_write))
 writes_turns S c got (syncs k i left step d ds has need) live =
     each_set (λ k client. JobWritable S c.state client.job) c.clients k _ (there_busy c k i left step has) live
-      (λ a_write. active_any c.state _ (goes_active S c k i left step _ live has need (λ none. absurd cc) a_write))
+    (λ a_write. active_any c.state _ (goes_active S c k i left step _ live has need (λ none. absurd cc) a_write))
 writes_turns S c got (gets k i left step d has need) live =
     each_set (λ k client. JobWritable S c.state client.job) c.clients k _ (there_busy c k i left step has) live
-      (λ a_write. active_any c.state _ (goes_active S c k i left step _ live has need (λ none. absurd cc) a_write))
+    (λ a_write. active_any c.state _ (goes_active S c k i left step _ live has need (λ none. absurd cc) a_write))
 writes_turns S c got (acks k i left step answer has need) live =
     each_set (λ k client. JobWritable S c.state client.job) c.clients k _ (there_busy c k i left step has) live tt
 

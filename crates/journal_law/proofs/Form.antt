@@ -1,6 +1,5 @@
 -- The form of the journal is kept by each turn.
-use Rattle.std.proofs.Common.{◌≡◌, ℕ, zero, suc, ◌+◌, ◌≤◌, ◌<◌, ◌==◌, Bool, true, false, List, [], ◌∷◌, ◌++◌, length, refl, ap, sym, ◌∙◌, subst, arith, Option, Some, None, slice_get}
-use Rattle.std.specs.Prelude.{⊤}
+use Rattle.std.proofs.Common.{◌≡◌, ℕ, zero, suc, ◌+◌, ◌≤◌, ◌==◌, Bool, true, false, List, [], ◌∷◌, ◌++◌, refl, subst, arith, Option, Some, None}
 use Rattle.std.specs.List.{AllByRecursion, last_or}
 use Rattle.std.proofs.lemmas.Bool.Decides.{nat_tests}
 use Rattle.imsm_base.specs.declared.units.Sector.{Sector}
@@ -12,9 +11,9 @@ use Rattle.array_model.specs.declared.journal.Entry.{Entry}
 use Rattle.array_model.specs.declared.journal.Event.{Event}
 use Rattle.array_model.specs.declared.journal.Event.TheVariants.{Submit, Pass, Point}
 use Rattle.array_model.specs.Events.{AtEach, AtEachFrom, count, is_begin, is_end, is_ready, is_any_ready, is_active, is_clean, is_any_clean, is_pending, is_any_pending, is_idle, is_submit_in, is_pass, is_pass_end, is_fault, is_unblock, is_takeover, is_spare, is_settled, is_posted}
-use Rattle.array_model.specs.Script.{is_write_in, kind_at, write_at, target_in, kind_in}
+use Rattle.array_model.specs.Script.{is_write_in, kind_at}
 use Rattle.array_model.specs.Form.{IsJournal, NamesOp}
-use Rattle.array_model.specs.Counts.{KeepsCounts, KeepsVolumeCounts, PendingAfter, PassAfter}
+use Rattle.array_model.specs.Counts.{KeepsVolumeCounts, PendingAfter, PassAfter}
 use Rattle.array_model.proofs.Journals.{at_each_more, count-append, all-append}
 use Rattle.stage_machine.specs.Setting.{Setting, Renews}
 use Rattle.stage_machine.specs.Opens.{AsksFirst, IsInFirst}
@@ -22,7 +21,7 @@ use Rattle.stage_machine.specs.States.{State, IsReadonly, IsReadAuto, IsClean, I
 use Rattle.stage_machine.specs.Jobs.{is_write, is_write_kind}
 use Rattle.stage_machine.specs.Machine.{Control, World, Action, Reached, opens, goes, happens, stamped, calls_after, turned, call_of, got_of}
 use Rattle.stage_machine.proofs.Turns.{Turns, turns_of, nothing, fails, anchors, settles, ends, begins, readies, actives, cleans, rests, pasts, asks_read, asks_write, puts, syncs, gets, acks}
-use Rattle.stage_machine.proofs.Moments.{Counted, counted_reached}
+use Rattle.stage_machine.proofs.Moments.{counted_reached}
 use Rattle.stage_machine.proofs.Clients.{Mine, mine_reached, of_left, of_job, op_below}
 use Rattle.stage_machine.proofs.Ours.{AreOurs, IsOurs, ours_turn, count_none, no_pass, no_pass_end, no_fault, no_unblock, no_takeover, no_spare, no_settled, no_posted, no_ready, no_active, no_pending, no_idle, no_clean}
 use Rattle.journal_law.proofs.Tallies.{readonly, pending, awake, resting, going, due, ready_step, active_step, pending_step, idle_step, clean_step, end_step, begin_step}
@@ -121,6 +120,7 @@ in_turn_turn S asks c got n journal (asks_write k i rest place has is w live) = 
   where
     submit : Entry
     submit = record { stamp = n; event = Submit i }
+
     at : (state : State) → AtEachFrom (λ front e. PendingAfter S.asked.ops front e.stamp e.event) (journal ++ record { stamp = n; event = Submit i } ∷ []) (stamped n (asked_events state))
     at IsReadonly = tt
     at IsReadAuto = (rw (last-append None journal (record { stamp = n; event = Submit i })) (refl, write_first S asks i w), tt)
@@ -159,9 +159,17 @@ kept_after S asks renews w a mine k =
 
 pub kept_reached : (S : Setting) → AsksFirst S → Renews S → (w : World) → Reached S w → Kept S w
 kept_reached S asks renews w opens = record {
-  named = tt; ours = tt; in_turn = tt; passes = tt;
-  ready = omega arith; active = omega arith; pending_one = omega arith; idle = omega arith; clean = omega arith;
-  ends_begun = omega arith; begins_due = omega arith;
+  named = tt;
+  ours = tt;
+  in_turn = tt;
+  passes = tt;
+  ready = omega arith;
+  active = omega arith;
+  pending_one = omega arith;
+  idle = omega arith;
+  clean = omega arith;
+  ends_begun = omega arith;
+  begins_due = omega arith;
 }
 kept_reached S asks renews w (goes {w = v} r a) = kept_after S asks renews v a (mine_reached S v r) (kept_reached S asks renews v r)
 
@@ -172,6 +180,7 @@ volume_counts S w k v = at (0 == v) refl
   where
     none : (test : Event → Bool) → ((e : Event) → IsOurs e → test e ≡ false) → count test w.journal ≡ 0
     none test never = count_none test never w.journal k.ours
+
     zero_counts : KeepsVolumeCounts S.asked.ops 0 w.journal
     zero_counts = record {
       ready = let h = k.ready in omega (arith, h);
@@ -182,6 +191,7 @@ volume_counts S w k v = at (0 == v) refl
       pass = let h = count_none (is_pass 0) (no_pass 0) w.journal k.ours in omega (arith, h);
       pass_end = let h = count_none (is_pass_end 0) (no_pass_end 0) w.journal k.ours in omega (arith, h);
     }
+
     at : (b : Bool) → (0 == v) ≡ b → KeepsVolumeCounts S.asked.ops v w.journal
     at true is = let zero_is : 0 ≡ v = grind (arith, nat_tests, is) in subst (λ z. KeepsVolumeCounts S.asked.ops z w.journal) zero_is zero_counts
     at false is = record {

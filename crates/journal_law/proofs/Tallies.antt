@@ -1,12 +1,9 @@
 -- How often the entries of a turn come, against the control state.
-use Rattle.std.proofs.Common.{◌≡◌, ℕ, zero, suc, ◌+◌, ◌≤◌, ◌<◌, ◌==◌, ◌||◌, Bool, true, false, List, [], ◌∷◌, ◌++◌, refl, ap, sym, ◌∙◌, subst, arith, Option, Some, None, ◌⊎◌, inl, inr}
+use Rattle.std.proofs.Common.{◌≡◌, ℕ, ◌+◌, ◌≤◌, Bool, true, false, List, ◌∷◌, refl, ap, ◌∙◌, arith, Option, ◌⊎◌, inl, inr}
 use Rattle.imsm_base.specs.declared.units.Sector.{Sector}
 use Rattle.device_log.specs.Log.{Call}
-use Rattle.array_model.specs.declared.script.Op.{Op}
-use Rattle.array_model.specs.declared.journal.Entry.{Entry}
 use Rattle.array_model.specs.declared.journal.Event.{Event}
 use Rattle.array_model.specs.declared.journal.Event.TheVariants.{Submit}
-use Rattle.array_model.specs.Blocks.{Laid}
 use Rattle.array_model.specs.Events.{count, is_begin, is_end, is_ready, is_any_ready, is_active, is_clean, is_any_clean, is_pending, is_any_pending, is_idle, is_submit_in}
 use Rattle.array_model.specs.Script.{is_write_in}
 use Rattle.stage_machine.specs.Setting.{Setting, Renews}

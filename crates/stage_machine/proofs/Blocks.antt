@@ -1,16 +1,15 @@
 -- What a call does to the metadata of one disk, where each block has one sector.
-use Rattle.std.proofs.Common.{◌≡◌, ℕ, zero, suc, ◌+◌, ◌-◌, ◌<◌, ◌≤◌, ◌==◌, ◌||◌, ◌&&◌, Bool, true, false, if◌then◌else◌, nat_lt, nat_le, List, [], ◌∷◌, ◌++◌, length, refl, ap, sym, ◌∙◌, subst, arith, ◌⊎◌, inl, inr, Option, Some, None}
-use Rattle.std.specs.List.{AllByRecursion, list_any}
+use Rattle.std.proofs.Common.{◌≡◌, ℕ, ◌+◌, ◌-◌, ◌≤◌, ◌==◌, ◌||◌, Bool, true, false, nat_lt, nat_le, List, [], ◌∷◌, ◌++◌, refl, ap, sym, ◌∙◌, subst, arith, inl, inr, Some}
 use Rattle.std.specs.Str.{bytes_eq}
 use Rattle.std.proofs.lemmas.Bool.Decides.{nat_tests}
 use Rattle.imsm_base.specs.declared.units.Sector.{Sector}
 use Rattle.imsm_base.specs.declared.bounds.TheConstants.{METADATA_SECTORS}
 use Rattle.imsm_base.specs.Whole.{anchor_place}
-use Rattle.device_log.specs.Log.{Call, What, Read, Write, Sync}
-use Rattle.device_log.specs.Cells.{Cell, resting, brought, cell_at}
-use Rattle.array_model.specs.Blocks.{Laid, Words, sector_eq, sectors_eq, laid_eq, block_of, is_container}
+use Rattle.device_log.specs.Log.{Call, Write}
+use Rattle.device_log.specs.Cells.{Cell, brought, cell_at}
+use Rattle.array_model.specs.Blocks.{Laid, Words, sectors_eq, laid_eq, block_of}
 use Rattle.array_model.specs.Start.{Disks}
-use Rattle.array_model.specs.Candidates.{Disk, In, is_among, Part, NoPart, AnchorPart, part_of, part_at_end, with_block, written, standing, counted, noted, disk_at, disk_called, disk_from}
+use Rattle.array_model.specs.Candidates.{Disk, In, is_among, NoPart, AnchorPart, part_of, with_block, written, standing, noted, disk_called, disk_from}
 
 -- A LOG WITH ONE CALL MORE
 

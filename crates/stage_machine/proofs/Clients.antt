@@ -1,5 +1,5 @@
 -- The clients' operations are their own.
-use Rattle.std.proofs.Common.{◌≡◌, ◌≢◌, ℕ, zero, suc, ◌+◌, ◌<◌, ◌≤◌, ◌==◌, ◌||◌, Bool, true, false, cond, if◌then◌else◌, nat_lt, List, [], ◌∷◌, length, refl, ap, sym, ◌∙◌, subst, arith, ◌⊎◌, inl, inr, Option, Some, None, slice_set, slice_index_or, map}
+use Rattle.std.proofs.Common.{◌≡◌, ◌≢◌, ℕ, zero, suc, ◌+◌, ◌<◌, ◌≤◌, ◌==◌, ◌||◌, Bool, true, false, cond, if◌then◌else◌, nat_lt, List, [], ◌∷◌, length, refl, ap, sym, ◌∙◌, subst, arith, ◌⊎◌, inl, inr, Option, Some, None, slice_set, map}
 use Rattle.std.specs.Prelude.{⊤, filter}
 use Rattle.std.specs.List.{AllByRecursion, range_with_len}
 use Rattle.std.proofs.lemmas.Bool.Decides.{nat_tests}
@@ -15,7 +15,7 @@ use Rattle.array_model.specs.declared.script.OpKind.{OpKind}
 use Rattle.array_model.specs.declared.script.OpKind.TheVariants.{Write as OpWrite, Read as OpRead, Whole as OpWhole}
 use Rattle.stage_machine.specs.Setting.{Setting, has}
 use Rattle.stage_machine.specs.Jobs.{JobStep, Waiting, Writing, Syncing, Written, Got, Job, NoJob, Busy, Client, no_client, client_at, ops_of, place_at, row_at, row_in, sector_in, the_shape, Need, NoNeed, Reads, Writes, Syncs, Answers, need_of, first_need, read_need, write_need, sync_need, after_write, after_sync}
-use Rattle.stage_machine.specs.Machine.{Control, need_now, need_unless, is_held, World, Action, Reached, opens, goes, happens, begins_at, clients_of, turned, call_of, got_of}
+use Rattle.stage_machine.specs.Machine.{Control, need_now, need_unless, is_held, World, Reached, opens, goes, clients_of, got_of}
 use Rattle.stage_machine.proofs.Turns.{Turns, Has, turns_of, nothing, fails, anchors, settles, ends, begins, readies, actives, cleans, rests, pasts, asks_read, asks_write, puts, syncs, gets, acks}
 
 -- A LIST OF CLIENTS, ONE OF THEM CHANGED
@@ -175,6 +175,7 @@ need_in S c k i step inside = at (is_held S c k i)
     by (Syncing left) h = sync_in S.members left h
     by Written h = tt
     by (Got value) h = tt
+
     at : (b : Bool) → NeedIn S.members (need_unless S i step b)
     at true = tt
     at false = by step inside

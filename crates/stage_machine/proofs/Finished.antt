@@ -1,25 +1,22 @@
 -- Which calls a run makes, and what the blocks have in common that it writes.
-use Rattle.std.proofs.Common.{◌≡◌, ℕ, zero, suc, ◌+◌, ◌-◌, ◌<◌, ◌≤◌, ◌==◌, ◌||◌, ◌&&◌, Bool, true, false, if◌then◌else◌, List, [], ◌∷◌, ◌++◌, length, take, drop, refl, ap, sym, ◌∙◌, subst, arith, ◌⊎◌, inl, inr, Option, Some, None}
+use Rattle.std.proofs.Common.{◌≡◌, ℕ, zero, suc, ◌+◌, ◌<◌, ◌==◌, ◌&&◌, Bool, true, false, if◌then◌else◌, List, [], ◌∷◌, take, drop, refl, ap, sym, ◌∙◌, subst, arith, inl, inr, Option, Some, None}
 use Rattle.std.specs.Prelude.{⊤}
 use Rattle.std.specs.List.{AllByRecursion}
 use Rattle.std.proofs.lemmas.Bool.Decides.{nat_tests}
 use Rattle.imsm_base.specs.declared.units.Sector.{Sector}
-use Rattle.imsm_base.specs.declared.bounds.TheConstants.{METADATA_SECTORS}
 use Rattle.imsm_base.specs.Whole.{anchor_place}
 use Rattle.device_log.specs.Log.{Call, What, Read, Write, Sync}
 use Rattle.array_model.specs.declared.journal.Entry.{Entry}
 use Rattle.array_model.specs.declared.journal.Event.{Event}
-use Rattle.array_model.specs.Blocks.{Laid, Words}
-use Rattle.array_model.specs.Start.{Start, Disks}
-use Rattle.array_model.specs.Events.{up_to}
-use Rattle.array_model.specs.Candidates.{Disk, In, is_among, standing, counted, synced, disk_at, disk_called, disk_from, writes}
-use Rattle.array_model.specs.Rounds.{IsFinished, IsFinishedBy, IsRound, ended}
+use Rattle.array_model.specs.Blocks.{Laid}
+use Rattle.array_model.specs.Candidates.{Disk, In, is_among, standing, counted, disk_at, disk_called, disk_from, writes}
+use Rattle.array_model.specs.Rounds.{IsFinished, IsFinishedBy, ended}
 use Rattle.array_model.proofs.Journals.{all-append}
 use Rattle.stage_machine.specs.Setting.{Setting, Renews, SaysSame, has}
 use Rattle.stage_machine.specs.Opens.{StandsOnAll, IsFirstVolume}
-use Rattle.stage_machine.specs.Rounds.{AtAnchor, AtSync, Phase, Rest, Going}
-use Rattle.stage_machine.specs.Jobs.{JobStep, Busy, Need, Reads, Writes, Syncs, the_shape, row_at, value_at}
-use Rattle.stage_machine.specs.Machine.{Control, need_now, World, Action, Reached, opens, goes, happens, call_of, got_of, turned, log_after}
+use Rattle.stage_machine.specs.Rounds.{AtAnchor, Phase, Rest, Going}
+use Rattle.stage_machine.specs.Jobs.{JobStep, Busy, Reads, Writes, the_shape, row_at, value_at}
+use Rattle.stage_machine.specs.Machine.{Control, need_now, World, Reached, opens, goes, got_of, log_after}
 use Rattle.stage_machine.proofs.Turns.{Turns, turns_of, Has, Asked, anchor, settle, put, sync, get, nothing, fails, anchors, settles, ends, begins, readies, actives, cleans, rests, pasts, asks_read, asks_write, puts, syncs, gets, acks}
 use Rattle.stage_machine.proofs.Clients.{Mine, mine_reached, of_job, NeedIn, need_in, row_below, AllIn, all_in_self}
 use Rattle.stage_machine.proofs.Blocks.{IsRow, noted_row, noted_anchor}
@@ -163,5 +160,4 @@ module _ (S : Setting) (volume : IsFirstVolume S) where
       at None is = subst (λ z. SaysSame S.start.words z S.start.newest) (sym is) (record { container = refl; expects = λ serial. refl; is_supported = λ v. refl; pass = λ v. refl; slots = λ v. refl })
       at (Some g) (stamp, begun, round) =
           (in_all (Good S) m (writes S.start.words S.start.disks round.disk (drop stamp log)) round.written
-            (known_from round.disk _ (drop stamp log) (all_drop S stamp log fine) tt)).same
-
+          (known_from round.disk _ (drop stamp log) (all_drop S stamp log fine) tt)).same

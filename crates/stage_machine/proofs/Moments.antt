@@ -1,14 +1,14 @@
 -- What holds at each moment of a run goes on to hold after a turn.
-use Rattle.std.proofs.Common.{◌≡◌, ℕ, zero, suc, ◌+◌, ◌<◌, ◌≤◌, List, [], ◌∷◌, ◌++◌, length, take, refl, ap, sym, ◌∙◌, subst, arith, append_assoc, length-append, ◌⊎◌, inl, inr, Option, Some, None}
+use Rattle.std.proofs.Common.{◌≡◌, ℕ, ◌+◌, ◌<◌, ◌≤◌, List, [], ◌∷◌, ◌++◌, length, take, refl, sym, subst, arith, length-append, ◌⊎◌, inl, inr, Option, Some, None}
 use Rattle.std.proofs.lemmas.List.{append-nil, take-append-le, take_all}
 use Rattle.device_log.specs.Log.{Call}
 use Rattle.array_model.specs.declared.journal.Entry.{Entry}
 use Rattle.array_model.specs.declared.journal.Event.{Event}
-use Rattle.array_model.specs.Moments.{AllBelow, NoneBelow, IsMoment, Always}
+use Rattle.array_model.specs.Moments.{AllBelow, NoneBelow, Always}
 use Rattle.array_model.specs.Form.{RisesFrom}
 use Rattle.array_model.proofs.Journals.{all-append, all_first, below_later}
 use Rattle.stage_machine.specs.Setting.{Setting}
-use Rattle.stage_machine.specs.Machine.{World, Action, Out, Reached, opens, goes, happens, begins_at, turned, call_of, stamped, calls_after, log_after}
+use Rattle.stage_machine.specs.Machine.{World, Action, Reached, opens, goes, happens, turned, call_of, stamped, calls_after, log_after}
 
 -- of two cuts of one list, one is further
 cuts : (xs ys front rest : List Entry) → xs ++ ys ≡ front ++ rest

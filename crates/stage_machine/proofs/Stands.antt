@@ -1,25 +1,20 @@
 -- What each target holds of metadata, by the place of the round.
-use Rattle.std.proofs.Common.{◌≡◌, ℕ, zero, suc, ◌+◌, ◌-◌, ◌<◌, ◌≤◌, ◌==◌, ◌||◌, ◌&&◌, Bool, true, false, if◌then◌else◌, nat_lt, nat_le, List, [], ◌∷◌, ◌++◌, length, refl, ap, sym, ◌∙◌, subst, arith, ◌⊎◌, inl, inr, Option, Some, None}
+use Rattle.std.proofs.Common.{◌≡◌, ℕ, ◌+◌, ◌≤◌, ◌&&◌, Bool, true, false, nat_lt, List, [], ◌∷◌, length, refl, ap, sym, ◌∙◌, subst, arith, ◌⊎◌, inl, inr, Option}
 use Rattle.std.specs.Prelude.{⊤}
 use Rattle.std.specs.List.{AllByRecursion}
-use Rattle.std.proofs.lemmas.Bool.Decides.{nat_tests}
 use Rattle.imsm_base.specs.declared.units.Sector.{Sector}
 use Rattle.imsm_base.specs.declared.bounds.TheConstants.{METADATA_SECTORS}
 use Rattle.imsm_base.specs.Whole.{anchor_place}
 use Rattle.device_log.specs.Log.{Call, What, Read, Write, Sync}
-use Rattle.device_log.specs.Cells.{Cell, resting, brought, cell_at, cell_synced}
+use Rattle.device_log.specs.Cells.{Cell, brought, cell_synced}
 use Rattle.array_model.specs.Blocks.{Laid, Words}
-use Rattle.array_model.specs.Start.{Start, Disks}
-use Rattle.array_model.specs.Candidates.{Disk, In, is_among, with_block, standing, counted, noted, disk_at, disk_called, disk_from, disk_after, opened, opened_with}
-use Rattle.array_model.specs.Placement.{Shape, Place, place_of, place_by}
+use Rattle.array_model.specs.Candidates.{Disk, In, is_among, standing, counted, disk_at}
 use Rattle.stage_machine.specs.Setting.{Setting, Renews, SaysSame, has}
-use Rattle.stage_machine.specs.Opens.{StandsOnAll, IsFirstVolume}
+use Rattle.stage_machine.specs.Opens.{StandsOnAll}
 use Rattle.stage_machine.specs.Rounds.{Step, AtAnchor, AtSync, Phase, Rest, Going, Round}
-use Rattle.stage_machine.specs.Jobs.{Job, Busy, the_shape, place_at, row_at, value_at, sector_in}
-use Rattle.stage_machine.specs.Machine.{Control, World, Action, Reached, opens, goes, happens, begins_at, turned, call_of, got_of, log_after}
-use Rattle.stage_machine.proofs.Turns.{Turns, turns_of, Asked, anchor, settle, put, sync, get, nothing, fails, anchors, settles, ends, begins, readies, actives, cleans, rests, pasts, asks_read, asks_write, puts, syncs, gets, acks}
-use Rattle.stage_machine.proofs.Clients.{Mine, mine_reached, IsJob, of_job}
-use Rattle.stage_machine.proofs.Blocks.{disk-snoc, in_among, IsAlone, standing_is, IsRow, noted_row, noted_anchor, cell_row, cell_anchor}
+use Rattle.stage_machine.specs.Machine.{Control, World, Reached, opens, goes, got_of}
+use Rattle.stage_machine.proofs.Turns.{Turns, turns_of, nothing, fails, anchors, settles, ends, begins, readies, actives, cleans, rests, pasts, asks_read, asks_write, puts, syncs, gets, acks}
+use Rattle.stage_machine.proofs.Blocks.{in_among, IsAlone, standing_is, IsRow, noted_row, noted_anchor, cell_row, cell_anchor}
 
 -- GOOD BLOCKS: of one sector, with the members of the newest at opening, and whole on each target
 
@@ -208,7 +203,7 @@ module _ (S : Setting) (d : ℕ) where
   synced_settled m k alone whole h =
       let is = standing_is W n k.cells m alone h.stands in
       let counts : (W.is_whole (S.start.disks.serial d) n (standing W n k.cells) && is_among (standing W n k.cells) k.known) ≡ true =
-        rw (is, whole) (in_among m k.known h.known) in
+      rw (is, whole) (in_among m k.known h.known) in
       let now = sync_stands m k true h in
       record {
         candidates = ap (λ b. (counted W k (standing W n k.cells) b).candidates) counts ∙ ap (λ x. x ∷ []) is;
@@ -220,8 +215,8 @@ module _ (S : Setting) (d : ℕ) where
 
   row_same : (k : Disk) (place stored : ℕ) (s : Sector) (went : Bool) → IsRow n place
       → ((after k (Write place (s ∷ []) stored) went).candidates ≡ k.candidates)
-        × ((after k (Write place (s ∷ []) stored) went).known ≡ k.known)
-        × (((after k (Write place (s ∷ []) stored) went).cells (anchor_place n)) ≡ k.cells (anchor_place n))
+      × ((after k (Write place (s ∷ []) stored) went).known ≡ k.known)
+      × (((after k (Write place (s ∷ []) stored) went).cells (anchor_place n)) ≡ k.cells (anchor_place n))
   row_same k place stored s went le =
       let same = noted_row W (S.start.disks.serial d) n k place stored s went le in
       (ap (λ (x : Disk). x.candidates) same, ap (λ (x : Disk). x.known) same, cell_row n (k.cells (anchor_place n)) place stored s went le)

@@ -1,25 +1,24 @@
 -- What all targets hold, from turn to turn.
-use Rattle.std.proofs.Common.{◌≡◌, ℕ, zero, suc, ◌+◌, ◌-◌, ◌<◌, ◌≤◌, ◌==◌, ◌||◌, ◌&&◌, Bool, true, false, if◌then◌else◌, List, [], ◌∷◌, ◌++◌, length, refl, ap, sym, ◌∙◌, subst, arith, ◌⊎◌, inl, inr, Option, Some, None}
+use Rattle.std.proofs.Common.{◌≡◌, ℕ, ◌+◌, ◌≤◌, ◌==◌, Bool, true, false, List, [], ◌∷◌, ◌++◌, refl, ap, sym, ◌∙◌, subst, arith, inl, Option}
 use Rattle.std.specs.Prelude.{⊤}
 use Rattle.std.proofs.lemmas.Bool.Decides.{nat_tests}
 use Rattle.imsm_base.specs.declared.units.Sector.{Sector}
 use Rattle.imsm_base.specs.declared.bounds.TheConstants.{METADATA_SECTORS}
 use Rattle.imsm_base.specs.Whole.{anchor_place}
-use Rattle.device_log.specs.Log.{Call, What, Read, Write, Sync}
+use Rattle.device_log.specs.Log.{Call, What, Write, Sync}
 use Rattle.device_log.specs.Cells.{resting}
 use Rattle.array_model.specs.declared.journal.Event.{Event}
-use Rattle.array_model.specs.Blocks.{Laid, Words}
-use Rattle.array_model.specs.Start.{Start, Disks}
-use Rattle.array_model.specs.Candidates.{Disk, In, standing, disk_after, opened, opened_with, disk_at}
+use Rattle.array_model.specs.Blocks.{Laid}
+use Rattle.array_model.specs.Candidates.{Disk, disk_after, opened, opened_with}
 use Rattle.stage_machine.specs.Setting.{Setting, Renews, has}
 use Rattle.stage_machine.specs.Opens.{StandsOnAll, IsFirstVolume}
 use Rattle.stage_machine.specs.Rounds.{Step, AtAnchor, AtSync, Phase, Rest, Going, Round}
-use Rattle.stage_machine.specs.Jobs.{JobStep, Busy, Need, Reads, Writes, Syncs, the_shape, row_at, value_at}
-use Rattle.stage_machine.specs.Machine.{Control, need_now, World, Action, Reached, opens, goes, happens, begins_at, turned, call_of, got_of, log_after}
+use Rattle.stage_machine.specs.Jobs.{JobStep, Busy, Writes, the_shape, row_at, value_at}
+use Rattle.stage_machine.specs.Machine.{Control, need_now, World, Reached, opens, goes, got_of, log_after}
 use Rattle.stage_machine.proofs.Turns.{Turns, turns_of, Has, Asked, anchor, settle, put, sync, get, nothing, fails, anchors, settles, ends, begins, readies, actives, cleans, rests, pasts, asks_read, asks_write, puts, syncs, gets, acks}
-use Rattle.stage_machine.proofs.Clients.{Mine, mine_reached, IsJob, of_job, NeedIn, need_in, row_below, same}
+use Rattle.stage_machine.proofs.Clients.{Mine, mine_reached, of_job, NeedIn, need_in, row_below}
 use Rattle.stage_machine.proofs.Blocks.{disk-snoc, IsAlone, IsRow}
-use Rattle.stage_machine.proofs.Stands.{Good, GoodRound, going_good, good_reached, Settled, StandsAs, Mixed, RowCall, row_write, row_read, row_sync, after, settled_as, mixed_of, mixed_last, sync_stands, synced_settled, settled_row, mixed_row, mixed_sync, row_stands, mixed_anchor, anchored}
+use Rattle.stage_machine.proofs.Stands.{GoodRound, going_good, good_reached, Settled, StandsAs, Mixed, RowCall, row_write, row_read, row_sync, after, mixed_of, mixed_last, synced_settled, settled_row, mixed_row, row_stands, mixed_anchor, anchored}
 
 abbrev pub IsFirst : ℕ → List ℕ → Type 0
 IsFirst d [] = ⊥
@@ -101,9 +100,10 @@ row_stays S last d k (Going m AtAnchor left) what went lone alone row h =
     let one = alone m AtAnchor left refl in
     record { mixed = mixed_row S d last m k what went lone one row h.mixed; done = λ out. settled_row S d m k what went one row (h.done out) }
 row_stays S last d k (Going m AtSync left) what went lone alone row h =
-    let one = alone m AtSync left refl in
-    (record { mixed = mixed_row S d last m k what went lone one row h.0.mixed; done = λ out. settled_row S d m k what went one row (h.0.done out) },
-     λ first. row_stands S d m k what went row (h.1 first))
+    let one = alone m AtSync left refl in (
+      record { mixed = mixed_row S d last m k what went lone one row h.0.mixed; done = λ out. settled_row S d m k what went one row (h.0.done out) },
+      λ first. row_stands S d m k what went row (h.1 first),
+    )
 
 module _ (S : Setting) (volume : IsFirstVolume S) (log : List Call) (c : Control) (mine : Mine S c) (good : GoodRound S c.round) (stand : Stand S log c.round) where
   alone_of : (m : Laid) (step : Step) (left : List ℕ) → c.round.phase ≡ Going m step left → IsAlone S.start.words m
@@ -116,8 +116,8 @@ module _ (S : Setting) (volume : IsFirstVolume S) (log : List Call) (c : Control
   stand_row : (e : ℕ) (what : What) (went : Bool) → RowCall S e what → Stand S (log ++ call e what went ∷ []) c.round
   stand_row e what went row d target =
       lift S (λ k. StandsIn S c.round.last d k c.round.phase) (λ k. StandsIn S c.round.last d k c.round.phase) log e d what went (stand d target)
-        (λ here k h. row_stays S c.round.last d k c.round.phase what went good.last.alone alone_of (subst (λ z. RowCall S z what) here row) h)
-        (λ other k h. h)
+      (λ here k h. row_stays S c.round.last d k c.round.phase what went good.last.alone alone_of (subst (λ z. RowCall S z what) here row) h)
+      (λ other k h. h)
 
   stand_put : (k i : ℕ) (left : List ℕ) (step : JobStep) (e : ℕ) (ds : List ℕ) (stored : ℕ) (went : Bool) → Has c k left (Busy i step) → need_now S c k i step ≡ Writes e ds
       → Stand S (log ++ call e (Write ((the_shape S).pba + row_at S i) (value_at S i ∷ []) stored) went ∷ []) c.round
@@ -132,11 +132,11 @@ module _ (S : Setting) (volume : IsFirstVolume S) (log : List Call) (c : Control
       → Under S c.round.last m d (disk S (log ++ call e (Write (anchor_place (S.start.disks.sectors e)) (m.anchor ∷ []) stored) went ∷ []) d) (e ∷ ds)
   stand_anchor m e ds stored went is d target =
       lift S (λ k. Under S c.round.last m d k (e ∷ ds)) (λ k. Under S c.round.last m d k (e ∷ ds)) log e d _ went (subst (StandsIn S c.round.last d (disk S log d)) is (stand d target))
-        (λ here k h. subst (λ z. Under S c.round.last m d (after S d k (Write (anchor_place (S.start.disks.sectors z)) (m.anchor ∷ []) stored) went) (e ∷ ds)) (sym here) (record {
-          mixed = mixed_anchor S d c.round.last m k stored went (enough d target) (alone_of m AtAnchor (e ∷ ds) is) h.mixed;
-          done = λ out. absurd (first_in e d ds here out);
-        }))
-        (λ other k h. h)
+      (λ here k h. subst (λ z. Under S c.round.last m d (after S d k (Write (anchor_place (S.start.disks.sectors z)) (m.anchor ∷ []) stored) went) (e ∷ ds)) (sym here) (record {
+        mixed = mixed_anchor S d c.round.last m k stored went (enough d target) (alone_of m AtAnchor (e ∷ ds) is) h.mixed;
+        done = λ out. absurd (first_in e d ds here out);
+      }))
+      (λ other k h. h)
     where
       first_in : (e d : ℕ) (ds : List ℕ) → e ≡ d → has d (e ∷ ds) ≡ false → ⊥
       first_in e d ds here out = let is : (e == d) ≡ true = grind (arith, nat_tests, here) in absurd (let yes_in : has d (e ∷ ds) ≡ true = rw is refl in cc (yes_in, out))
@@ -146,8 +146,8 @@ module _ (S : Setting) (volume : IsFirstVolume S) (log : List Call) (c : Control
       → StandsAs S d m (disk S (log ++ call e (Write (anchor_place (S.start.disks.sectors e)) (m.anchor ∷ []) 1) true ∷ []) d)
   stand_anchored m e ds is d target first =
       lift S (λ k. ⊤) (λ k. StandsAs S d m k) log e d _ true tt
-        (λ here k h. subst (λ z. StandsAs S d m (after S d k (Write (anchor_place (S.start.disks.sectors z)) (m.anchor ∷ []) 1) true)) (sym here) (anchored S d m k (enough d target) (alone_of m AtAnchor (e ∷ ds) is)))
-        (λ other k h. absurd (let is_here : (e == d) ≡ true = grind (arith, nat_tests, first) in cc (is_here, other)))
+      (λ here k h. subst (λ z. StandsAs S d m (after S d k (Write (anchor_place (S.start.disks.sectors z)) (m.anchor ∷ []) 1) true)) (sym here) (anchored S d m k (enough d target) (alone_of m AtAnchor (e ∷ ds) is)))
+      (λ other k h. absurd (let is_here : (e == d) ≡ true = grind (arith, nat_tests, first) in cc (is_here, other)))
 
   -- the sync of the first target that is left
   stand_synced : (m : Laid) (e : ℕ) (ds : List ℕ) → c.round.phase ≡ Going m AtSync (e ∷ ds)
@@ -155,8 +155,8 @@ module _ (S : Setting) (volume : IsFirstVolume S) (log : List Call) (c : Control
   stand_synced m e ds is d target =
       let it = going_good S c.round m AtSync (e ∷ ds) good is in
       lift S (λ k. GoingIn S c.round.last m d k (e ∷ ds) AtSync) (λ k. Under S c.round.last m d k ds) log e d Sync true (subst (StandsIn S c.round.last d (disk S log d)) is (stand d target))
-        (λ here k h. let settled = synced_settled S d m k it.alone (it.whole d target) (h.1 here) in record { mixed = mixed_of S d c.round.last m (after S d k Sync true) settled; done = λ out. settled })
-        (λ other k h. record { mixed = h.0.mixed; done = λ out. h.0.done (rw other out) })
+      (λ here k h. let settled = synced_settled S d m k it.alone (it.whole d target) (h.1 here) in record { mixed = mixed_of S d c.round.last m (after S d k Sync true) settled; done = λ out. settled })
+      (λ other k h. record { mixed = h.0.mixed; done = λ out. h.0.done (rw other out) })
 
   stand_settle : (m : Laid) (e : ℕ) (ds : List ℕ) → c.round.phase ≡ Going m AtSync (e ∷ ds) → Stand S (log ++ call e Sync false ∷ []) c.round
   stand_settle m e ds is = stand_row e Sync false row_sync
@@ -197,7 +197,7 @@ opened_settled S on d target = subst (Settled S d S.start.newest) (sym known) (r
   where
     known : opened S.start.words S.start.disks d ≡ opened_with S.start.words (λ p. resting (S.start.disks.opening d p)) S.start.newest true
     known = ap (λ m. opened_with S.start.words (λ p. resting (S.start.disks.opening d p)) m (S.start.words.is_whole (S.start.disks.serial d) (S.start.disks.sectors d) m)) (on.stands d target)
-      ∙ ap (opened_with S.start.words (λ p. resting (S.start.disks.opening d p)) S.start.newest) (on.whole d target)
+        ∙ ap (opened_with S.start.words (λ p. resting (S.start.disks.opening d p)) S.start.newest) (on.whole d target)
 
 pub stand_reached : (S : Setting) → Renews S → StandsOnAll S → IsFirstVolume S → (w : World) → Reached S w → Stand S w.log w.control.round
 stand_reached S renews on volume w opens = opened_settled S on

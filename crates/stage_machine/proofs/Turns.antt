@@ -1,5 +1,5 @@
 -- What a turn may call, enter and leave: one relation, which all laws go through.
-use Rattle.std.proofs.Common.{◌≡◌, ℕ, zero, suc, ◌+◌, ◌==◌, ◌||◌, ◌&&◌, not, Bool, true, false, if◌then◌else◌, List, [], ◌∷◌, refl, ap, sym, ◌∙◌, subst, Option, Some, None, ◌⊎◌, inl, inr, slice_set}
+use Rattle.std.proofs.Common.{◌≡◌, ℕ, ◌+◌, not, Bool, true, false, List, [], ◌∷◌, refl, ap, Option, Some, None, ◌⊎◌, inl, inr}
 use Rattle.imsm_base.specs.declared.units.Sector.{Sector}
 use Rattle.imsm_base.specs.Whole.{anchor_place}
 use Rattle.device_log.specs.Log.{Call, What, Read, Write, Sync}
@@ -13,10 +13,10 @@ use Rattle.array_model.specs.Script.{kind_at}
 use Rattle.array_model.specs.Placement.{Place}
 use Rattle.array_model.specs.Blocks.{Laid}
 use Rattle.stage_machine.specs.Setting.{Setting}
-use Rattle.stage_machine.specs.Rounds.{Step, AtAnchor, AtSync, Phase, Rest, Going, Round, Rounded, Ended, stored_of, what_of, round_call, to_next, step_on, begin_with, begin}
-use Rattle.stage_machine.specs.States.{State, IsReadonly, IsReadAuto, IsClean, IsPending, IsActive, IsIdle, is_readonly, is_pending_state, the_volume, asked_state, asked_events, is_due, next_dirty, Move, Nothing, Starts, Makes, starts_if, decide_started, decide}
-use Rattle.stage_machine.specs.Jobs.{JobStep, Waiting, Writing, Syncing, Written, Got, Job, NoJob, Busy, Client, client_at, the_shape, place_at, row_at, value_at, is_write, is_locked, any_writing, Need, NoNeed, Reads, Writes, Syncs, Answers, need_of, after_write, after_sync, need_call}
-use Rattle.stage_machine.specs.Machine.{Control, Out, idle, dropped, called, put_round, moved, monitor_at, put_client, past, submit_write, submit_read, submit_kind, submit_unless, submit_next, is_held, meet, need_unless, need_now, client_by, job_call, quiet_if, quieted, Action, Monitors, Asks, Quiets, turn, turned, turned_unless, turn_call, call_of, call_unless, got_of}
+use Rattle.stage_machine.specs.Rounds.{Step, AtAnchor, AtSync, Phase, Rest, Going, Ended, round_call, begin_with}
+use Rattle.stage_machine.specs.States.{State, IsReadonly, IsReadAuto, IsClean, IsPending, IsActive, IsIdle, is_readonly, the_volume, asked_state, asked_events, is_due, next_dirty, starts_if, decide}
+use Rattle.stage_machine.specs.Jobs.{JobStep, Waiting, Got, Job, NoJob, Busy, client_at, the_shape, place_at, row_at, value_at, is_write, any_writing, Need, NoNeed, Reads, Writes, Syncs, Answers, after_write, after_sync, need_call}
+use Rattle.stage_machine.specs.Machine.{Control, Out, put_round, moved, monitor_at, put_client, submit_write, submit_read, submit_kind, submit_unless, submit_next, meet, need_now, client_by, job_call, quiet_if, quieted, Action, Monitors, Asks, Quiets, turn, turned, turned_unless, turn_call, call_of, call_unless, got_of}
 
 -- the client has these operations left, and this job
 abbrev pub Has : Control → ℕ → List ℕ → Job → Type 0
@@ -49,7 +49,7 @@ pub data Turns (S : Setting) (c : Control) (got : Sector) : Option Call → List
   begins : (d : ℕ) (ds : List ℕ) → c.round.phase ≡ Rest → c.round.working ≡ d ∷ ds
       → (c.round.started ≡ false) ⊎ (is_due c.state (S.start.words.is_dirty c.round.book 0) ≡ true)
       → Turns S c got None (Begin (c.round.note + 1) ∷ [])
-          (record c { round = record c.round { note = c.round.note + 1; phase = Going (S.renew c.round.book (c.round.note + 1) (next_dirty c.state)) AtAnchor (d ∷ ds) } })
+      (record c { round = record c.round { note = c.round.note + 1; phase = Going (S.renew c.round.book (c.round.note + 1) (next_dirty c.state)) AtAnchor (d ∷ ds) } })
   readies : c.round.phase ≡ Rest → c.round.started ≡ true → c.state ≡ IsReadonly → Turns S c got None (Ready the_volume ∷ []) (record c { state = IsReadAuto })
   actives : c.round.phase ≡ Rest → c.round.started ≡ true → c.state ≡ IsPending → S.start.words.is_dirty c.round.last 0 ≡ true
       → Turns S c got None (Active the_volume ∷ []) (record c { state = IsActive })
@@ -81,9 +81,11 @@ monitor_turns S c got x Rest is = by c.round.started refl c.state refl (S.start.
         → TurnsOut S c got None (put_round c (begin_with c.round (S.renew c.round.book (c.round.note + 1) (next_dirty c.state)) working))
     due why [] none = nothing
     due why (d ∷ ds) some = begins d ds is some why
+
     if_due : (dirty : Bool) → S.start.words.is_dirty c.round.book 0 ≡ dirty → (b : Bool) → is_due c.state dirty ≡ b → TurnsOut S c got None (moved S c (starts_if b))
     if_due dirty d true why = due (inr (rw d why)) c.round.working refl
     if_due dirty d false why = nothing
+
     by : (started : Bool) → c.round.started ≡ started → (state : State) → c.state ≡ state → (recorded : Bool) → S.start.words.is_dirty c.round.last 0 ≡ recorded
         → (dirty : Bool) → S.start.words.is_dirty c.round.book 0 ≡ dirty → TurnsOut S c got None (moved S c (decide started state recorded dirty))
     by false s state t recorded r dirty d = due (inl s) c.round.working refl
@@ -114,14 +116,17 @@ submit_turns S c got k (i ∷ rest) has = at (is_readonly c.state) refl
     write : is_write S i ≡ true → is_readonly c.state ≡ false → (place : Option Place) → place_at S i ≡ place → TurnsOut S c got None (submit_write c k i rest place)
     write w live None is = pasts k i rest has is
     write w live (Some place) is = asks_write k i rest place has is w live
+
     read : is_write S i ≡ false → is_readonly c.state ≡ false → (place : Option Place) → place_at S i ≡ place → TurnsOut S c got None (submit_read c k i rest place)
     read w live None is = pasts k i rest has is
     read w live (Some place) is = asks_read k i rest place has is w live
+
     kind : is_readonly c.state ≡ false → (kind : Option OpKind) → kind_at S.asked.ops i ≡ kind → TurnsOut S c got None (submit_kind S c k i rest kind)
     kind live None is = nothing
     kind live (Some (OpWrite v s value)) is = write (rw is refl) live (place_at S i) refl
     kind live (Some (OpRead v s)) is = read (rw is refl) live (place_at S i) refl
     kind live (Some (OpWhole v)) is = nothing
+
     at : (b : Bool) → is_readonly c.state ≡ b → TurnsOut S c got None (submit_unless S c k i rest b)
     at true is = nothing
     at false is = kind is (kind_at S.asked.ops i) refl
@@ -141,6 +146,7 @@ client_turns S c k x got left (Busy i step) has = at (need_now S c k i step) ref
     went_or_not true n (Syncs d ds) is = syncs k i left step d ds has is
     went_or_not false n (Syncs d ds) is = fails d _ (sync k i left step d ds has is)
     went_or_not b n (Answers answer) is = acks k i left step answer has is
+
     at : (need : Need) → need_now S c k i step ≡ need → TurnsOut S c got (need_call S x i need) (meet S c k x got left i need)
     at need is = went_or_not x.went x.stored need is
 
@@ -164,6 +170,7 @@ turns_of S c a = at c.failed
     by (Monitors x) = monitor_turns S c _ x c.round.phase refl
     by (Asks k x got) = client_turns S c k x got (client_at c.clients k).left (client_at c.clients k).job refl
     by Quiets = quiet_turns S c _ c.state refl
+
     at : (failed : Option ℕ) → TurnsOut S c (got_of a) (call_unless S c a failed) (turned_unless S c a failed)
     at None = by a
     at (Some d) = nothing

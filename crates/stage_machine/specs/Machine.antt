@@ -1,15 +1,14 @@
 -- The machine: what each turn calls, what it leaves, and what it enters. It has no device: the answer of a call comes
 -- with the action. A failed call ends the run. Source: this project's own.
-use Rattle.std.specs.Prelude.{◌≡◌, ℕ, ◌+◌, ◌==◌, ◌||◌, ◌&&◌, not, Bool, true, false, List, [], ◌∷◌, ◌++◌, slice_set, map, Option, Some, None, is_none, if◌then◌else◌, ⊤}
+use Rattle.std.specs.Prelude.{◌≡◌, ℕ, ◌+◌, ◌||◌, ◌&&◌, not, Bool, true, false, List, [], ◌∷◌, ◌++◌, slice_set, map, Option, Some, None, ⊤}
 use Rattle.std.specs.List.{range_with_len}
 use Rattle.imsm_base.specs.declared.units.Sector.{Sector}
-use Rattle.device_log.specs.Log.{Call, What, Read, Write, Sync}
+use Rattle.device_log.specs.Log.{Call, Read}
 use Rattle.array_model.specs.declared.script.OpKind.{OpKind}
 use Rattle.array_model.specs.declared.script.OpKind.TheVariants.{Write as OpWrite, Read as OpRead, Whole as OpWhole}
 use Rattle.array_model.specs.declared.journal.Entry.{Entry}
 use Rattle.array_model.specs.declared.journal.Event.{Event}
 use Rattle.array_model.specs.declared.journal.Event.TheVariants.{Submit, Ack, Idle}
-use Rattle.array_model.specs.declared.journal.Answer.{Answer}
 use Rattle.array_model.specs.declared.journal.Answer.TheVariants.{Past}
 use Rattle.array_model.specs.Script.{kind_at, sector_of}
 use Rattle.array_model.specs.Placement.{Place}
@@ -207,8 +206,12 @@ abbrev pub begins_at : Setting → World
 begins_at S = record {
   control = record {
     round = record {
-      book = S.start.newest; last = S.start.newest; note = S.start.words.generation S.start.newest.anchor;
-      started = false; working = S.targets; phase = Rest;
+      book = S.start.newest;
+      last = S.start.newest;
+      note = S.start.words.generation S.start.newest.anchor;
+      started = false;
+      working = S.targets;
+      phase = Rest;
     };
     state = IsReadonly;
     clients = clients_of S;

@@ -1,13 +1,7 @@
 -- What a run of the machine takes as given, and how the disks stand when it begins. Source: this project's own.
-use Rattle.std.specs.Prelude.{◌≡◌, ℕ, ◌+◌, ◌<◌, ◌≤◌, ◌==◌, ◌||◌, Bool, true, false, List, [], ◌∷◌, Some, None, ⊤}
-use Rattle.std.specs.List.{AllByRecursion}
-use Rattle.imsm_base.specs.declared.bounds.TheConstants.{METADATA_SECTORS}
-use Rattle.imsm_base.specs.declared.units.Level.TheVariants.{One}
-use Rattle.array_model.specs.declared.script.Op.{Op}
+use Rattle.std.specs.Prelude.{◌≡◌, ℕ, ◌==◌, ◌||◌, Bool, true, false, List, [], ◌∷◌}
 use Rattle.array_model.specs.Script.{Asked}
-use Rattle.array_model.specs.Blocks.{Laid, Words, SlotWords}
-use Rattle.array_model.specs.Candidates.{opened}
-use Rattle.array_model.specs.FailureLaw.{HasInSlot}
+use Rattle.array_model.specs.Blocks.{Laid, Words}
 use Rattle.array_model.specs.Start.{Start}
 
 -- The start, the script, the disks that a round writes to, in the order of their numbers, the disks of the volume in

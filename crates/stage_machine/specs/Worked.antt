@@ -1,10 +1,9 @@
 -- The turns of the worked run: a drain of one client that writes and reads. Source: this project's own.
-use Rattle.std.specs.Prelude.{ℕ, true, List, [], ◌∷◌, ◌++◌, if◌then◌else◌}
+use Rattle.std.specs.Prelude.{true, List, [], ◌∷◌, ◌++◌, if◌then◌else◌}
 use Rattle.std.specs.List.{repeat}
 use Rattle.array_model.specs.Small.{small_start, the_script, block, bytes_at, the_value}
 use Rattle.array_model.specs.Script.{sector_of}
 use Rattle.stage_machine.specs.Setting.{Setting}
-use Rattle.stage_machine.specs.Rounds.{Ended}
 use Rattle.stage_machine.specs.Machine.{Action, Monitors, Asks, Quiets}
 
 abbrev pub small_setting : Setting

@@ -1,0 +1,164 @@
+-- The answer law over every honest run.
+use Rattle.std.proofs.Common.{◌≡◌, ℕ, ◌≤◌, ◌&&◌, Bool, true, false, List, [], ◌∷◌, ◌++◌, length, refl, ap, sym, ◌∙◌, subst, arith, ◌⊎◌, inl, inr, Option, Some, None}
+use Rattle.std.specs.List.{AllByRecursion}
+use Rattle.imsm_base.specs.declared.units.Sector.{Sector}
+use Rattle.device_log.specs.Log.{Call}
+use Rattle.device_log.specs.Cells.{resting}
+use Rattle.array_model.specs.declared.script.OpKind.{OpKind}
+use Rattle.array_model.specs.declared.script.OpKind.TheVariants.{Write as OpWrite, Read as OpRead, Whole as OpWhole}
+use Rattle.array_model.specs.declared.journal.Entry.{Entry}
+use Rattle.array_model.specs.declared.journal.Event.{Event}
+use Rattle.array_model.specs.declared.journal.Event.TheVariants.{Ack}
+use Rattle.array_model.specs.declared.journal.Answer.TheVariants.{Done, Value, Past, Failed, NoSpare}
+use Rattle.array_model.specs.Script.{kind_at}
+use Rattle.array_model.specs.Placement.{Place, place_of}
+use Rattle.array_model.specs.Events.{AtEach, AtEachFrom}
+use Rattle.array_model.specs.Moments.{AllBelow}
+use Rattle.array_model.specs.Content.{is_still_unsure}
+use Rattle.array_model.specs.Candidates.{opened, opened_with, standing}
+use Rattle.array_model.specs.AnswerLaw.{AnswerLaw, ValueAt, ValueOf, IsValue, IsGivenAt, IsGivenOrXor, IsGiven, submitted_from}
+use Rattle.array_model.proofs.Journals.{at_each_more}
+use Rattle.stage_machine.specs.Setting.{Setting, Renews}
+use Rattle.stage_machine.specs.Opens.{AsksFirst, StandsOnAll, IsFirstVolume, HoldsContent}
+use Rattle.stage_machine.specs.Jobs.{Client}
+use Rattle.stage_machine.specs.Machine.{Control, World, Action, Reached, opens, goes, Honest, opens_true, goes_true, TrueTurn, happens, clients_of, call_of, call_unless, got_of, turned, turned_unless, stamped, calls_after, log_after}
+use Rattle.stage_machine.proofs.Turns.{Turns, turns_of, nothing, fails, anchors, settles, ends, begins, readies, actives, cleans, rests, pasts, asks_read, asks_write, puts, syncs, gets, acks}
+use Rattle.stage_machine.proofs.Moments.{counted_reached}
+use Rattle.stage_machine.proofs.Clients.{mine_reached, at_start}
+use Rattle.stage_machine.proofs.Ours.{ours_reached}
+use Rattle.stage_machine.proofs.Finished.{fine_reached}
+use Rattle.answer_law.proofs.Order.{in_order}
+use Rattle.answer_law.proofs.JobKinds.{fits_reached, whole_each, acks_reached, reads_in_sync}
+use Rattle.answer_law.proofs.Rows.{at_row, given_more}
+use Rattle.answer_law.proofs.Values.{JobVals, Vals}
+use Rattle.answer_law.proofs.Law.{vals_turns, values_turns}
+
+pub reached_of : (S : Setting) (w : World) → Honest S w → Reached S w
+reached_of S w opens_true = opens
+reached_of S w (goes_true {w = v} h a gave) = goes (reached_of S v h) a
+
+-- A LONGER LOG
+
+all_given_more : (S : Setting) (log : List Call) (x : Call) (v row since stamp : ℕ) (ys : List Sector) → stamp ≤ length log → AllByRecursion (IsGiven S.start log v row since stamp) ys
+    → AllByRecursion (IsGiven S.start (log ++ x ∷ []) v row since stamp) ys
+all_given_more S log x v row since stamp [] short h = tt
+all_given_more S log x v row since stamp (y ∷ ys) short h = (given_more S log x v row since stamp stamp y short (omega arith) h.0, all_given_more S log x v row since stamp ys short h.1)
+
+value_more : (S : Setting) (log : List Call) (x : Call) (front : List Entry) (stamp : ℕ) (e : Event) → stamp ≤ length log → ValueAt S.start S.asked.ops log front stamp e → ValueAt S.start S.asked.ops (log ++ x ∷ []) front stamp e
+value_more S log x front stamp (Ack i (Value y)) short h = by (kind_at S.asked.ops i) h
+  where
+    given : (v row since : ℕ) → IsGivenOrXor S.start log v row since stamp y → IsGivenOrXor S.start (log ++ x ∷ []) v row since stamp y
+    given v row since (inl one) = inl (given_more S log x v row since stamp stamp y short (omega arith) one)
+    given v row since (inr (five, first, more, all, is)) = inr (five, first, more, all_given_more S log x v row since stamp (first ∷ more) short all, is)
+
+    at_place : (v : ℕ) (place : Option Place) (since : ℕ) → IsGivenAt S.start log v place since stamp y → IsGivenAt S.start (log ++ x ∷ []) v place since stamp y
+    at_place v None since h = h
+    at_place v (Some place) since h = given v place.row since h
+
+    at : (v s : ℕ) (b : Bool) → IsValue S.start S.asked.ops log front stamp i v s y b → IsValue S.start S.asked.ops (log ++ x ∷ []) front stamp i v s y b
+    at v s false h = h
+    at v s true h = at_place v (place_of (S.start.words.shape S.start.newest v) s) (submitted_from i 0 front) h
+
+    by : (kind : Option OpKind) → ValueOf S.start S.asked.ops log front stamp i y kind → ValueOf S.start S.asked.ops (log ++ x ∷ []) front stamp i y kind
+    by None h = h
+    by (Some (OpWrite v s value)) h = h
+    by (Some (OpRead v s)) h = at v.0 s (is_still_unsure S.start S.asked.ops front v.0 s) h
+    by (Some (OpWhole v)) h = h
+value_more S log x front stamp (Ack i Done) short h = tt
+value_more S log x front stamp (Ack i Past) short h = tt
+value_more S log x front stamp (Ack i Failed) short h = tt
+value_more S log x front stamp (Ack i NoSpare) short h = tt
+value_more S log x front stamp _ short h = tt
+
+values_before : (S : Setting) (log : List Call) (x : Option Call) (front journal : List Entry) → AllBelow (length log) journal
+    → AtEachFrom (λ front e. ValueAt S.start S.asked.ops log front e.stamp e.event) front journal → AtEachFrom (λ front e. ValueAt S.start S.asked.ops (log_after log x) front e.stamp e.event) front journal
+values_before S log None front journal below h = h
+values_before S log (Some x) front [] below h = tt
+values_before S log (Some x) front (e ∷ es) below h = (value_more S log x front e.stamp e.event below.0 h.0, values_before S log (Some x) (front ++ e ∷ []) es below.1 h.1)
+
+-- RUNS
+
+pub record Kept (S : Setting) (w : World) : Type 0 where
+  pub vals : w.control.failed ≡ None → Vals S w.log w.journal w.control.clients
+  pub values : AtEach (λ front e. ValueAt S.start S.asked.ops w.log front e.stamp e.event) w.journal
+
+-- a run goes on, or this turn does nothing
+goes_or_not : (S : Setting) (c : Control) (a : Action) → (c.failed ≡ None) ⊎ ((call_of S c a ≡ None) × ((turned S c a).events ≡ []))
+goes_or_not S c a = at c.failed refl
+  where
+    at : (f : Option ℕ) → c.failed ≡ f → (c.failed ≡ None) ⊎ ((call_of S c a ≡ None) × ((turned S c a).events ≡ []))
+    at None is = inl is
+    at (Some d) is = inr (ap (call_unless S c a) is, ap (λ f. (turned_unless S c a f).events) is)
+
+-- a run that goes on after a turn went on before it
+went_on : (S : Setting) (c : Control) (got : Sector) {call : Option Call} {es : List Event} {next : Control} → Turns S c got call es next → next.failed ≡ None → c.failed ≡ None
+went_on S c got nothing alive = alive
+went_on S c got (fails d what asked) alive = absurd cc
+went_on S c got (anchors m d ds is) alive = alive
+went_on S c got (settles m d e ds is) alive = alive
+went_on S c got (ends m d is) alive = alive
+went_on S c got (begins d ds is some why) alive = alive
+went_on S c got (readies is s t) alive = alive
+went_on S c got (actives is s t r) alive = alive
+went_on S c got (cleans is s t) alive = alive
+went_on S c got (rests t calm) alive = alive
+went_on S c got (pasts k i rest here none) alive = alive
+went_on S c got (asks_read k i rest place here is w ready) alive = alive
+went_on S c got (asks_write k i rest place here is w ready) alive = alive
+went_on S c got (puts k i left step d ds here need) alive = alive
+went_on S c got (syncs k i left step d ds here need) alive = alive
+went_on S c got (gets k i left step d here need) alive = alive
+went_on S c got (acks k i left step answer here need) alive = alive
+
+and_true : (b : Bool) → (b && true) ≡ false → b ≡ false
+and_true true h = absurd cc
+and_true false h = refl
+
+module _ (S : Setting) (asks : AsksFirst S) (renews : Renews S) (on : StandsOnAll S) (volume : IsFirstVolume S) (holds : HoldsContent S) where
+  opened_cells : (d p : ℕ) → (opened S.start.words S.start.disks d).cells p ≡ resting (S.start.disks.opening d p)
+  opened_cells d p = at (S.start.words.is_whole (S.start.disks.serial d) (S.start.disks.sectors d) (standing S.start.words (S.start.disks.sectors d) (λ p. resting (S.start.disks.opening d p))))
+    where
+      at : (b : Bool) → (opened_with S.start.words (λ p. resting (S.start.disks.opening d p)) (standing S.start.words (S.start.disks.sectors d) (λ p. resting (S.start.disks.opening d p))) b).cells p ≡ resting (S.start.disks.opening d p)
+      at true = refl
+      at false = refl
+
+  vals_start : Vals S [] [] (clients_of S)
+  vals_start = record {
+    jobs = λ k. elim (at_start S k) [
+      | inl first ↦ subst (λ (x : Client). JobVals S [] [] x.job) (sym first.1) tt
+      | inr past ↦ subst (λ (x : Client). JobVals S [] [] x.job) (sym past.1) tt
+    ];
+    free = λ row d below no_writer member sure. ap (λ (c : _). c.stood) (opened_cells d (at_row S row)) ∙ holds row d below (and_true (S.start.unsure 0 row) sure) member;
+  }
+
+  kept_after : (w : World) (r : Reached S w) (a : Action) → TrueTurn S w a → Kept S w → Kept S (happens S w a)
+  kept_after w r a gave k =
+      let c = w.control in
+      let x = call_of S c a in
+      let es = (turned S c a).events in
+      let counted = counted_reached S w r in
+      let t = turns_of S c a in
+      let below : AllBelow (length w.log) w.journal = subst (λ z. AllBelow z w.journal) counted.calls counted.below in
+      record {
+        vals = λ alive. vals_turns S asks volume w.log w.journal c (got_of a) w.calls (mine_reached S w r) (fits_reached S w r) counted.calls counted.below (k.vals (went_on S c (got_of a) t alive)) t gave alive;
+        values = at_each_more (λ front e. ValueAt S.start S.asked.ops (log_after w.log x) front e.stamp e.event) w.journal (stamped (calls_after w.calls x) es)
+            (values_before S w.log x [] w.journal below k.values)
+            (elim (goes_or_not S c a) [
+              | inl alive ↦ values_turns S asks volume w.log w.journal c (got_of a) w.calls (mine_reached S w r) (fits_reached S w r) counted.calls counted.below (k.vals alive) t
+              | inr idle ↦ subst (λ new. AtEachFrom (λ front e. ValueAt S.start S.asked.ops (log_after w.log x) front e.stamp e.event) w.journal (stamped (calls_after w.calls x) new)) (sym idle.1) tt
+            ]);
+      }
+
+  kept_honest : (w : World) → Honest S w → Kept S w
+  kept_honest w opens_true = record { vals = λ alive. vals_start; values = tt }
+  kept_honest w (goes_true {w = v} h a gave) = kept_after v (reached_of S v h) a gave (kept_honest v h)
+
+  pub answers_honest : (w : World) → Honest S w → AnswerLaw S.start S.asked w.log w.journal
+  answers_honest w h =
+      let r = reached_of S w h in
+      record {
+        order = in_order S asks w r;
+        values = (kept_honest w h).values;
+        reads = reads_in_sync S on volume w.log w.journal (ours_reached S w r) (fine_reached S renews on volume w r);
+        whole = whole_each S w.log [] w.journal (acks_reached S w r);
+      }
