@@ -3,4 +3,4 @@
 
 mod worked;
 
-pub use worked::one_write_and_one_read;
+pub use worked::{one_write_and_one_read, the_worked_setting_opens};

@@ -2,10 +2,21 @@
 ghost use Rattle.std.specs.Prelude.{◌≡◌};
 ghost use Rattle.array_model.specs.Small.{worked_log, worked_journal};
 ghost use Rattle.stage_machine.specs.Machine.{run, begins_at};
+ghost use Rattle.stage_machine.specs.Opens.{AsksFirst, StandsOnAll, IsFirstVolume, HoldsContent};
+ghost use Rattle.stage_machine.specs.Setting.{Renews};
 ghost use Rattle.stage_machine.specs.Worked.{small_setting, the_turns};
 
 /// One write and one read: the machine makes these calls and enters this journal.
 pub fn one_write_and_one_read()
     ensures calls { (run small_setting (begins_at small_setting) the_turns).log ≡ worked_log }
     ensures journal { (run small_setting (begins_at small_setting) the_turns).journal ≡ worked_journal }
+{}
+
+/// The opening of the worked run meets what the laws take as given.
+pub fn the_worked_setting_opens()
+    ensures asks { AsksFirst small_setting }
+    ensures renews { Renews small_setting }
+    ensures stands { StandsOnAll small_setting }
+    ensures volume { IsFirstVolume small_setting }
+    ensures content { HoldsContent small_setting }
 {}
