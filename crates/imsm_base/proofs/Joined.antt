@@ -54,9 +54,6 @@ maps_in-joined (m ∷ ms) rest all =
     let more : maps_in (length ms) (drop (map_room (map_in ((map_bytes m ++ flat_map map_bytes ms) ++ rest))) ((map_bytes m ++ flat_map map_bytes ms) ++ rest)) ≡ ms = ap (maps_in (length ms)) (room ∙ behind) ∙ maps_in-joined ms rest all.1 in
     cc
 
-maps_at : (k : ℕ) (ms : List Map) (bytes rest : List ℕ) → k ≡ length ms → bytes ≡ flat_map map_bytes ms ++ rest → AllByRecursion IsMap ms → maps_in k bytes ≡ ms
-maps_at k ms bytes rest count at all = ap (λ (n : ℕ). maps_in n bytes) count ∙ ap (maps_in (length ms)) at ∙ maps_in-joined ms rest all
-
 pub length-maps_bytes : (ms : List Map) → AllByRecursion IsMap ms → length (flat_map map_bytes ms) ≡ maps_room ms
 length-maps_bytes [] all = refl
 length-maps_bytes (m ∷ ms) all =
@@ -87,11 +84,10 @@ volume_in-joined v rest is =
     let device : cut_at 0 device_lengths X ≡ v.device = ap (cut_at 0 device_lengths) one ∙ cut_front device_lengths v.device (S ++ (M ++ rest)) is.device in
     let state : cut_at 80 state_lengths X ≡ v.state = ap (cut_at 80 state_lengths) one ∙ cut_at-joined 80 state_lengths D v.state (M ++ rest) (length-part device_lengths v.device is.device) is.state in
     let open_pass : number_at 1 88 X ≡ migration_state_of v = ap (number_in 2) state in
-    let count : (if number_at 1 88 X == 0 then 1 else 2) ≡ length v.maps = ◌∙◌ {b = map_count_of v} (ap (λ (n : ℕ). if n == 0 then 1 else 2) open_pass) (sym is.count) in
+    let count : (if number_at 1 88 X == 0 then 1 else 2) ≡ length v.maps = ap (λ (n : ℕ). if n == 0 then 1 else 2) open_pass ∙ sym is.count in
     let place : length (D ++ S) ≡ 112 = omega (arith, length-append D S, length-part device_lengths v.device is.device, length-part state_lengths v.state is.state) in
-    let behind : drop 112 X ≡ M ++ rest =
-    ap (λ (x : List ℕ). drop 112 x) one ∙ ap (λ (x : List ℕ). drop 112 x) two ∙ drop_at (D ++ S) (M ++ rest) 112 place in
-    let maps : maps_in (if number_at 1 88 X == 0 then 1 else 2) (drop 112 X) ≡ v.maps = maps_at (if number_at 1 88 X == 0 then 1 else 2) v.maps (drop 112 X) rest count behind is.maps in
+    let behind : drop 112 X ≡ M ++ rest = ap (λ (x : List ℕ). drop 112 x) (one ∙ two) ∙ drop_at (D ++ S) (M ++ rest) 112 place in
+    let maps : maps_in (if number_at 1 88 X == 0 then 1 else 2) (drop 112 X) ≡ v.maps = ap (λ (n : ℕ). maps_in n (drop 112 X)) count ∙ ap (maps_in (length v.maps)) behind ∙ maps_in-joined v.maps rest is.maps in
     same_volume_of device state maps
 
 pub volumes_in-joined : (vs : List Volume) (rest : List ℕ) → AllByRecursion IsVolume vs → volumes_in (length vs) (flat_map volume_bytes vs ++ rest) ≡ vs
