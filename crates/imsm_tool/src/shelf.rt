@@ -1,5 +1,6 @@
 //! Disks that are files of this machine.
-ghost use Rattle.std.specs.Prelude.{◌≡◌, ◌≢◌, ◌<◌, ℕ, [], Some, length, All, IfOk, OnOk, OnErr};
+ghost use Rattle.std.specs.Prelude.{◌≡◌, ◌≢◌, ◌<◌, ◌↔◌, ◌⊎◌, ℕ, [], Some, length, All, IsTrue, IfOk, OnOk, OnErr};
+ghost use Rattle.std.specs.IoError.{error_kind};
 ghost use Rattle.member_bank.specs.Files.{with_file};
 
 use image_run::{Shelf, ShelfFault};
@@ -30,14 +31,19 @@ fn hold_numbers<R: Files<File = File>>(rt: &R) -> io::Result<[File; 3]> {
 }
 
 /// The system doesn't let this file be written.
-fn is_refusal(error: &io::Error) -> bool {
+fn is_refusal(error: &io::Error) -> bool
+    ensures { IsTrue result ↔ (error_kind error.now ≡ ErrorKind.PermissionDenied) ⊎ (error_kind error.now ≡ ErrorKind.ReadOnlyFilesystem) }
+{
     matches!(
         error.kind(),
         ErrorKind::PermissionDenied | ErrorKind::ReadOnlyFilesystem
     )
 }
 
-fn fault_of(error: io::Error) -> ShelfFault {
+/// The system had no memory, or another fault.
+fn fault_of(error: io::Error) -> ShelfFault
+    ensures { result ≡ ShelfFault.Memory ↔ error_kind error ≡ ErrorKind.OutOfMemory }
+{
     match error.kind() {
         ErrorKind::OutOfMemory => ShelfFault::Memory,
         _ => ShelfFault::Failed,
