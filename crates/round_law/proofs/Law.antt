@@ -126,18 +126,18 @@ module _ (S : Setting) (volume : IsFirstVolume S) where
     facts_more x new kind hush = record {
       before = λ not_yet. let was = old.facts.before not_yet in (was.0, ended-append None journal new ∙ hush.ends (ended journal) ∙ was.1);
       done = λ yet.
-        let d = old.facts.done yet in
-        record {
-          stamp = d.stamp;
-          begun_at = begun-append (gen S c.round.last) None journal new ∙ hush.begins (begun (gen S c.round.last) journal) ∙ d.begun_at;
-          short = let more = longer log x in let short = d.short in omega (arith, more, short);
-          ended_as = ended-append None journal new ∙ hush.ends (ended journal) ∙ d.ended_as;
-          disk = d.disk;
-          written = writes_grow S volume d.disk d.stamp c.round.last log x d.short d.written;
-        };
+          let d = old.facts.done yet in
+          record {
+            stamp = d.stamp;
+            begun_at = begun-append (gen S c.round.last) None journal new ∙ hush.begins (begun (gen S c.round.last) journal) ∙ d.begun_at;
+            short = let more = longer log x in let short = d.short in omega (arith, more, short);
+            ended_as = ended-append None journal new ∙ hush.ends (ended journal) ∙ d.ended_as;
+            disk = d.disk;
+            written = writes_grow S volume d.disk d.stamp c.round.last log x d.short d.written;
+          };
       one = λ yet. marks_more S (λ m. gen S m ≡ gen S c.round.last → m ≡ c.round.last) c good left
-        (λ m rest is. let u = anchor_is m rest is in λ same. absurd (let above = u.above yet in let of_round = u.gen_is in omega (arith, above, of_round, same)))
-        log x kind (old.facts.one yet);
+          (λ m rest is. let u = anchor_is m rest is in λ same. absurd (let above = u.above yet in let of_round = u.gen_is in omega (arith, above, of_round, same)))
+          log x kind (old.facts.one yet);
     }
 
     all_more : (x : Option Call) → KindOf S c x → AllMarks S (λ m. gen S m ≤ c.round.note) (log_after log x)
@@ -275,17 +275,20 @@ module _ (S : Setting) (renews : Renews S) (volume : IsFirstVolume S) (c : Contr
       let low = old.low in
       record {
         facts = facts_more S volume c good left log journal old None (record { stamp = n; event = Begin (c.round.note + 1) } ∷ []) tt
-          (record { ends = λ o. refl; begins = λ o. rw (one_more c.round.note (gen S c.round.last) low) refl });
+            (record { ends = λ o. refl; begins = λ o. rw (one_more c.round.note (gen S c.round.last) low) refl });
         low = omega (arith, low);
         all = all_marks_map S (λ a. gen S a ≤ c.round.note) (λ a. gen S a ≤ c.round.note + 1) (λ a le. omega (arith, le)) log old.all;
-        going = (record {
-          gen_is = is;
-          stamp = n;
-          begun_at = let here : (c.round.note + 1 == c.round.note + 1) ≡ true = grind (arith, nat_tests) in begun-append (c.round.note + 1) None journal (record { stamp = n; event = Begin (c.round.note + 1) } ∷ []) ∙ rw here refl;
-          short = omega (arith, count);
-          above = λ yet. omega (arith, low);
-          one = all_marks_map S (λ a. gen S a ≤ c.round.note) (λ a. gen S a ≡ c.round.note + 1 → a ≡ m) (λ a le same. absurd (omega (arith, le, same))) log old.all;
-        }, tt);
+        going = (
+          record {
+            gen_is = is;
+            stamp = n;
+            begun_at = let here : (c.round.note + 1 == c.round.note + 1) ≡ true = grind (arith, nat_tests) in begun-append (c.round.note + 1) None journal (record { stamp = n; event = Begin (c.round.note + 1) } ∷ []) ∙ rw here refl;
+            short = omega (arith, count);
+            above = λ yet. omega (arith, low);
+            one = all_marks_map S (λ a. gen S a ≤ c.round.note) (λ a. gen S a ≡ c.round.note + 1 → a ≡ m) (λ a le same. absurd (omega (arith, le, same))) log old.all;
+          },
+          tt,
+        );
       }
 
   round_anchors : (m : Laid) (d : ℕ) (ds : List ℕ) → c.round.phase ≡ Going m AtAnchor (d ∷ ds) → (x : Call) → KindOf S c (Some x)
@@ -362,8 +365,8 @@ module _ (S : Setting) (renews : Renews S) (on : StandsOnAll S) (volume : IsFirs
       let t = turns_of S c a in
       let kind = kind_turns S volume c (mine_reached S w r) (got_of a) t in
       let hushed : Hush (gen S c.round.last) p → HasFinished S.start (log_after w.log x) (w.journal ++ p) = λ hush.
-        has_finished S volume c.round.last c.round.started (log_after w.log x) (w.journal ++ p)
-          (facts_more S volume c (good_reached S renews on w r) (left_reached S renews on w r) w.log w.journal old x p kind hush) in
+      has_finished S volume c.round.last c.round.started (log_after w.log x) (w.journal ++ p)
+      (facts_more S volume c (good_reached S renews on w r) (left_reached S renews on w r) w.log w.journal old x p kind hush) in
       elim (hush_turns S c (got_of a) (gen S c.round.last) old.low t) [
         | inl hush ↦ hushed (hush_front (gen S c.round.last) (happens S w a).calls (turned S c a).events p q hush parts)
         | inr one ↦ elim (prefix_one (record { stamp = (happens S w a).calls; event = one.0 }) p q (sym (ap (stamped (happens S w a).calls) one.1) ∙ parts)) [
@@ -371,7 +374,7 @@ module _ (S : Setting) (renews : Renews S) (on : StandsOnAll S) (volume : IsFirs
           | inr whole ↦
               let new = kept_reached (happens S w a) (goes r a) in
               subst (λ z. HasFinished S.start (log_after w.log x) (w.journal ++ z)) (ap (stamped (happens S w a).calls) one.1 ∙ sym whole)
-                (has_finished S volume (happens S w a).control.round.last (happens S w a).control.round.started (log_after w.log x) (happens S w a).journal new.facts)
+              (has_finished S volume (happens S w a).control.round.last (happens S w a).control.round.started (log_after w.log x) (happens S w a).journal new.facts)
         ]
       ]
 
