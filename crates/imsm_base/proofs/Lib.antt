@@ -2,3 +2,4 @@ pub mod Cut
 pub mod Joined
 pub mod Apart
 pub mod At
+pub mod Spliced
