@@ -3,3 +3,4 @@ pub mod Joined
 pub mod Apart
 pub mod At
 pub mod Spliced
+pub mod Edited
