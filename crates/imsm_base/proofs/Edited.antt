@@ -1,20 +1,20 @@
 -- The edits of a block's bytes make the bytes of the block that is edited.
-use Rattle.std.proofs.Common.{◌≡◌, ◌≢◌, ℕ, zero, suc, ◌+◌, ◌-◌, ◌*◌, ◌≤◌, ◌<◌, ◌==◌, if◌then◌else◌, Bool, List, [], ◌∷◌, ◌++◌, length, map, take, drop, get_or, set, refl, sym, ◌∙◌, ap, subst, arith}
+use Rattle.std.proofs.Common.{◌≡◌, ◌≢◌, ℕ, zero, suc, ◌+◌, ◌*◌, ◌≤◌, ◌<◌, ◌==◌, if◌then◌else◌, Bool, List, [], ◌∷◌, ◌++◌, length, take, drop, get_or, set, refl, sym, ◌∙◌, ap, arith}
 use Rattle.std.specs.List.{concat, flat_map, AllByRecursion}
-use Rattle.std.proofs.lemmas.List.{append_assoc, drop-drop, length-map, length-drop, get_or-set_other}
+use Rattle.std.proofs.lemmas.List.{append_assoc, drop-drop, length-map, get_or-set_other}
 use Rattle.byteorder.specs.Endian.{little_bytes}
 use Rattle.imsm_base.specs.Fields.{Part, number, number_at}
 use Rattle.imsm_base.specs.Layout.{Block, Volume, HasLengths, IsVolume, IsBlock, Spells, header_lengths, device_lengths, state_lengths, dirty_byte_of, volume_bytes, map_bytes, bytes_of}
 use Rattle.imsm_base.specs.Parts.{volume_in, volumes_in, volume_room, volumes_room, behind_disks, block_in, room_of}
 use Rattle.imsm_base.specs.Edits.{with_generation, dirty_place, with_lowest_bit, with_dirty, with_header_field, block_with_generation, volume_with_dirty, volumes_with_dirty, block_with_dirty}
 use Rattle.imsm_base.proofs.Cut.{total, length-part}
-use Rattle.imsm_base.proofs.Joined.{block_in-spelled, length-volume_bytes, length-disks_bytes, room_of-spelled}
+use Rattle.imsm_base.proofs.Joined.{block_in-spelled, length-volume_bytes, length-disks_bytes}
 use Rattle.imsm_base.proofs.Apart.{length-disks, length-volumes}
 use Rattle.imsm_base.proofs.At.{place_of, volume_in-block, volumes_fit}
 use Rattle.imsm_base.proofs.Spliced.{spliced, length-spliced, spliced-front, spliced-behind, spliced-field, set-lengths}
 
 -- a part has as many fields as lengths
-fields_of : (ns : List ℕ) (part : Part) → HasLengths ns part → length part ≡ length ns
+pub fields_of : (ns : List ℕ) (part : Part) → HasLengths ns part → length part ≡ length ns
 fields_of ns part lengths = sym (length-map part (λ (g : List ℕ). length g)) ∙ ap (λ (xs : List ℕ). length xs) lengths
 
 -- THE HEADER

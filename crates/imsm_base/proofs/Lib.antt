@@ -4,3 +4,4 @@ pub mod Apart
 pub mod At
 pub mod Spliced
 pub mod Edited
+pub mod Sealed

@@ -1,8 +1,8 @@
 -- Bytes that are put into the place of others.
-use Rattle.std.proofs.Common.{◌≡◌, ◌≢◌, ℕ, zero, suc, ◌+◌, ◌-◌, ◌*◌, ◌≤◌, ◌<◌, List, [], ◌∷◌, ◌++◌, length, map, take, drop, get_or, refl, sym, ◌∙◌, ap, arith}
+use Rattle.std.proofs.Common.{◌≡◌, ℕ, zero, suc, ◌+◌, ◌-◌, ◌≤◌, ◌<◌, List, [], ◌∷◌, ◌++◌, length, map, take, drop, get_or, sym, ◌∙◌, ap, arith}
 use Rattle.std.proofs.Common.{set}
 use Rattle.std.specs.List.{concat}
-use Rattle.std.proofs.lemmas.List.{append_assoc, drop-drop, drop_at, drop-take, take-take, take-append-le, drop-append-le, length-append, length-take-le, length-drop, map-set, set-get_or, get_or-map}
+use Rattle.std.proofs.lemmas.List.{append_assoc, drop-drop, drop_at, drop-take, take-take, take-append-le, drop-append-le, length-append, length-take-le, length-drop, map-set, set-get_or}
 use Rattle.imsm_base.specs.Fields.{Part, number, number_at}
 use Rattle.imsm_base.specs.Layout.{HasLengths}
 use Rattle.imsm_base.proofs.Cut.{total}

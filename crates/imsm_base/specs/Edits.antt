@@ -67,3 +67,7 @@ block_with_size b size = with_header_field 3 (little_bytes 4 size) b
 
 abbrev pub block_with_checksum : Block → ℕ → Block
 block_with_checksum b sum = with_header_field 2 (little_bytes 4 sum) b
+
+-- the block that a seal makes of one of so many bytes, with this sum
+abbrev pub block_sealed : Block → ℕ → ℕ → Block
+block_sealed b size sum = block_with_checksum (block_with_size b size) sum
