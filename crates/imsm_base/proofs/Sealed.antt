@@ -111,7 +111,7 @@ sealed-spells bytes b s =
     (header-spells bytes b 3 (little_bytes 4 (length bytes)) s (size_is_free (length bytes)))
     (checksum_is_free (block_sum (sized bytes)))
 
-length-sized : (bytes : List ℕ) → 216 ≤ length bytes → length (sized bytes) ≡ length bytes
+pub length-sized : (bytes : List ℕ) → 216 ≤ length bytes → length (sized bytes) ≡ length bytes
 length-sized bytes long = length-spliced 36 (little_bytes 4 (length bytes)) bytes (omega arith)
 
 pub length-sealed : (bytes : List ℕ) → 216 ≤ length bytes → length (sealed bytes) ≡ length bytes

@@ -9,7 +9,7 @@ ghost use Rattle.imsm_codec.specs.Laid.{IsLaid};
 ghost use Rattle.imsm_codec.specs.Mpb.{block_bytes};
 ghost use Rattle.imsm_codec.specs.Buffer.{parts_of};
 
-use crate::bytes::put_u8;
+use crate::bytes::{get_u8, put_u8};
 use crate::checks::sum_of;
 use crate::fault::CodecFault;
 use crate::mpb::MpbRef;
@@ -94,7 +94,7 @@ impl MpbBuf {
         ensures block { parts_of self.new ≡ block_with_dirty (parts_of self.old) v.0 on }
     {
         let at = dirty_place(&self.bytes, v.0);
-        let byte = self.bytes[at];
+        let byte = get_u8(&self.bytes, at);
         put_u8(&mut self.bytes, at, byte / 2 * 2 + u8::from(on));
     }
 
@@ -116,9 +116,9 @@ impl MpbBuf {
     pub fn anchor(&self) -> Sector
         ensures { result.0 ≡ first_sector self.now.bytes }
     {
-        let mut sector = Sector([0; 512]);
+        let mut sector = [0; SECTOR_BYTES];
         let len = self.bytes.len().min(SECTOR_BYTES);
-        sector.0[..len].copy_from_slice(&self.bytes[..len]);
-        sector
+        sector[..len].copy_from_slice(&self.bytes[..len]);
+        Sector(sector)
     }
 }
