@@ -18,6 +18,7 @@ use Rattle.array_model.specs.Content.{is_still_unsure}
 use Rattle.array_model.specs.Candidates.{opened, opened_with, standing}
 use Rattle.array_model.specs.AnswerLaw.{AnswerLaw, ValueAt, ValueOf, IsValue, IsGivenAt, IsGivenOrXor, IsGiven, submitted_from}
 use Rattle.array_model.proofs.Journals.{at_each_more}
+use Rattle.array_model.specs.Renewal.{FitsGeneration}
 use Rattle.stage_machine.specs.Setting.{Setting, Renews}
 use Rattle.stage_machine.specs.Opens.{AsksFirst, StandsOnAll, IsFirstVolume, HoldsContent}
 use Rattle.stage_machine.specs.Jobs.{Client}
@@ -153,12 +154,12 @@ module _ (S : Setting) (asks : AsksFirst S) (renews : Renews S) (on : StandsOnAl
   kept_honest w opens_true = record { vals = λ alive. vals_start; values = tt }
   kept_honest w (goes_true {w = v} h a gave) = kept_after v (reached_of S v h) a gave (kept_honest v h)
 
-  pub answers_honest : (w : World) → Honest S w → AnswerLaw S.start S.asked w.log w.journal
-  answers_honest w h =
+  pub answers_honest : (w : World) → FitsGeneration w.control.round.note → Honest S w → AnswerLaw S.start S.asked w.log w.journal
+  answers_honest w fits h =
       let r = reached_of S w h in
       record {
         order = in_order S asks w r;
         values = (kept_honest w h).values;
-        reads = reads_in_sync S on volume w.log w.journal (ours_reached S w r) (fine_reached S renews on volume w r);
+        reads = reads_in_sync S on volume w.log w.journal (ours_reached S w r) (fine_reached S renews on volume w fits r);
         whole = whole_each S w.log [] w.journal (acks_reached S w r);
       }
