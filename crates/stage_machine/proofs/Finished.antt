@@ -10,7 +10,7 @@ use Rattle.array_model.specs.declared.journal.Entry.{Entry}
 use Rattle.array_model.specs.declared.journal.Event.{Event}
 use Rattle.array_model.specs.Blocks.{Laid}
 use Rattle.array_model.specs.Candidates.{Disk, In, is_among, standing, counted, disk_at, disk_called, disk_from, writes}
-use Rattle.array_model.specs.Rounds.{IsFinished, IsFinishedBy, ended}
+use Rattle.array_model.specs.Rounds.{IsFinished, IsFinishedBy, IsRound, ended}
 use Rattle.array_model.proofs.Journals.{all-append}
 use Rattle.array_model.specs.Renewal.{FitsGeneration, SaysSame}
 use Rattle.stage_machine.specs.Setting.{Setting, Renews, has}
@@ -156,12 +156,16 @@ module _ (S : Setting) (volume : IsFirstVolume S) where
       at true is = let here : x.disk ≡ d = grind (arith, nat_tests, is) in known_at d k x.what x.went (subst (λ z. Fine S z x.what) here fine.0) h
       at false is = h
 
-  -- the block of the last finished round is a good one
+  -- a block that the log writes for a round is a good one
+  pub round_good : (log : List Call) (stamp g : ℕ) (m : Laid) → AllByRecursion (IsFine S) log → IsRound S.start log stamp g m → SaysSame S.start.words m S.start.newest
+  round_good log stamp g m fine round =
+      (in_all (Good S) m (writes S.start.words S.start.disks round.disk (drop stamp log)) round.written
+      (known_from round.disk _ (drop stamp log) (all_drop S stamp log fine) tt)).same
+
+  -- so is the block of the last finished round
   pub finished_good : StandsOnAll S → (log : List Call) (journal : List Entry) (m : Laid) → AllByRecursion (IsFine S) log → IsFinished S.start log journal m → SaysSame S.start.words m S.start.newest
   finished_good on log journal m fine finished = at (ended journal) finished
     where
       at : (g : Option ℕ) → IsFinishedBy S.start log journal m g → SaysSame S.start.words m S.start.newest
       at None is = subst (λ z. SaysSame S.start.words z S.start.newest) (sym is) (record { container = refl; expects = λ serial. refl; is_supported = λ v. refl; pass = λ v. refl; slots = λ v. refl })
-      at (Some g) (stamp, begun, round) =
-          (in_all (Good S) m (writes S.start.words S.start.disks round.disk (drop stamp log)) round.written
-          (known_from round.disk _ (drop stamp log) (all_drop S stamp log fine) tt)).same
+      at (Some g) (stamp, begun, round) = round_good log stamp g m fine round
