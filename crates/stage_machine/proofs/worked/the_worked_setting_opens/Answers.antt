@@ -31,3 +31,6 @@ returns-clause-renews c m g y old fits = record {
     at : (b : Bool) → small_setting.start.words.is_dirty (small_setting.renew m g b) 0 ≡ b
     at true = refl
     at false = refl
+
+pub returns-clause-renewable : goal.returns-clause-renewable
+returns-clause-renewable c = record { alone = refl; short = refl; container = refl; serial = 65 ∷ []; sectors = 4096; whole = refl }
