@@ -1,27 +1,27 @@
 -- The edit of a round, on a whole block of one sector.
-use Rattle.std.proofs.Common.{◌≡◌, ◌≢◌, ℕ, zero, suc, ◌+◌, ◌-◌, ◌*◌, ◌/◌, ◌^◌, ◌<◌, ◌≤◌, ◌==◌, if◌then◌else◌, min, Bool, true, false, List, [], ◌∷◌, ◌++◌, length, map, take, drop, replicate, get_or, set, Option, Some, None, refl, sym, ◌∙◌, ap, subst, arith}
+use Rattle.std.proofs.Common.{◌≡◌, ◌≢◌, ℕ, zero, suc, ◌+◌, ◌^◌, ◌<◌, ◌≤◌, ◌==◌, if◌then◌else◌, Bool, true, false, List, [], ◌++◌, length, map, take, replicate, get_or, None, refl, sym, ◌∙◌, ap, subst, arith}
 use Rattle.std.specs.Prelude.{is_none, flat_map}
 use Rattle.std.proofs.lemmas.Bool.{false≢true}
-use Rattle.std.proofs.lemmas.List.{append-nil, take-take, take_at, length-take, get_or-set_same, get_or-set_other}
+use Rattle.std.proofs.lemmas.List.{append-nil, take-take, take_at, length-take, get_or-set_same}
 use Rattle.byteorder.specs.Endian.{little_bytes}
 use Rattle.imsm_base.specs.declared.units.Sector.{Sector}
-use Rattle.imsm_base.specs.Fields.{Part, number, number_at}
-use Rattle.imsm_base.specs.Layout.{Block, Volume, Spells, header_lengths, size_of, generation_of, disk_count_of}
+use Rattle.imsm_base.specs.Fields.{number, number_at}
+use Rattle.imsm_base.specs.Layout.{Block, header_lengths, size_of, generation_of, disk_count_of}
 use Rattle.imsm_base.specs.Parts.{block_in}
-use Rattle.imsm_base.specs.Whole.{IsWholeBlock, IsWholeDisk, IsSize, block_sum, extended_count, expected_serials}
+use Rattle.imsm_base.specs.Whole.{IsWholeBlock, IsWholeDisk, block_sum, extended_count, expected_serials}
 use Rattle.imsm_base.specs.Volumes.{members, is_dirty, volume_fault}
-use Rattle.imsm_base.specs.Edits.{with_generation, with_dirty, sized, sealed, first_sector, block_with_generation, block_with_dirty, block_with_size, block_sealed, volume_with_dirty, volumes_with_dirty}
+use Rattle.imsm_base.specs.Edits.{with_generation, with_dirty, sized, first_sector, block_with_generation, block_with_dirty, block_with_size, block_sealed}
 use Rattle.imsm_base.proofs.Joined.{block_in-spelled}
 use Rattle.imsm_base.proofs.Spliced.{number_at-take, number_at-front}
 use Rattle.imsm_base.proofs.Edited.{fields_of, other_field, length-volumes_with_dirty, length-with_generation, generation-spells, dirty-length}
 use Rattle.imsm_base.proofs.Sealed.{IsUnsealed, unsealed_whole, generation-unsealed, dirty-unsealed, sealed-whole, length-sealed, number-four}
-use Rattle.array_model.specs.Blocks.{Laid, is_container}
+use Rattle.array_model.specs.Blocks.{Laid}
 use Rattle.array_model.specs.Meaning.{bytes_of_laid, has_serial, of_volume, slot_words, pass_of}
 use Rattle.array_model.specs.Renewal.{FitsGeneration, SaysSame, IsRenewable, IsRenewed}
 use Rattle.block_words.specs.Reading.{parts_of, block_words}
 use Rattle.block_words.specs.Renewed.{renewed_bytes, renewed}
 use Rattle.block_words.proofs.Decided.{disk-decided, disk-apart}
-use Rattle.block_words.proofs.Same.{get-dirty, pass-dirty, block_like, fault-dirty, fault-other, first-dirty}
+use Rattle.block_words.proofs.Same.{get-dirty, pass-dirty, fault-dirty, fault-other, first-dirty}
 
 -- the parts of the block that is edited
 abbrev edited : Block → ℕ → Bool → List ℕ → Block

@@ -1,5 +1,5 @@
 -- What a block says but for its generation and its dirty bits doesn't rest on them.
-use Rattle.std.proofs.Common.{◌≡◌, ◌≢◌, ℕ, zero, suc, ◌+◌, ◌*◌, ◌/◌, ◌%◌, ◌<◌, ◌==◌, ◌&&◌, ◌||◌, not, Bool, true, false, cond, if◌then◌else◌, List, [], ◌∷◌, length, get_or, set, Option, Some, None, refl, sym, ◌∙◌, ap, arith}
+use Rattle.std.proofs.Common.{◌≡◌, ℕ, zero, suc, ◌+◌, ◌*◌, ◌/◌, ◌<◌, ◌==◌, ◌&&◌, ◌||◌, not, Bool, true, false, cond, if◌then◌else◌, List, [], ◌∷◌, length, get_or, Option, Some, None, refl, ◌∙◌, ap, arith}
 use Rattle.std.specs.Prelude.{find, is_none, slice_get}
 use Rattle.std.specs.List.{list_any, range_with_len, AllByRecursion}
 use Rattle.std.specs.Option.{option_map, option_map_or}
@@ -9,10 +9,10 @@ use Rattle.byteorder.specs.Endian.{little_bytes}
 use Rattle.imsm_base.specs.Fields.{Part, number}
 use Rattle.imsm_base.specs.Layout.{Block, Volume, IsVolume, state_lengths, disk_count_of, dirty_byte_of, level_byte_of, member_count_of, policy_of}
 use Rattle.imsm_base.specs.Volumes.{Fault, first_map, members, slots_of, is_dirty, has_policy, has_geometry, volume_level, is_bad_slot, is_over, overlaps, geometry_fault, volume_fault, bad_slot}
-use Rattle.imsm_base.specs.Volumes.Fault.{BadLevel, BadPolicy, BadMigration, BadIndex, BadGeometry, Overlaps}
+use Rattle.imsm_base.specs.Volumes.Fault.{BadLevel, BadPolicy, BadMigration, BadGeometry, Overlaps}
 use Rattle.imsm_base.specs.Edits.{with_lowest_bit, volume_with_dirty, volumes_with_dirty}
 use Rattle.imsm_base.proofs.Edited.{fields_of, other_state, length-volumes_with_dirty}
-use Rattle.array_model.specs.Meaning.{of_volume, pass_of}
+use Rattle.array_model.specs.Meaning.{pass_of}
 
 -- A word of a volume that doesn't rest on the dirty byte. Where the block's own words differ, so do the functions.
 get-same : {X : Type 0} (f g : Volume → X) (none : X) (vs : List Volume) (v : ℕ) → ((x : Volume) → f x ≡ g x) → option_map_or f (slice_get vs v) none ≡ option_map_or g (slice_get vs v) none

@@ -1,7 +1,7 @@
 -- The words of a block, read from its bytes: they are taken apart into the parts of a block, and its words are those of
 -- imsm_base. Of bytes that spell no whole block they are still numbers, which say nothing.
 -- Source: struct imsm_super and what it holds, of super-intel.c. How a block lies on a disk is this project's own.
-use Rattle.std.specs.Prelude.{ℕ, ◌&&◌, false, [], length, map, None, is_none}
+use Rattle.std.specs.Prelude.{◌&&◌, false, [], length, map, None, is_none}
 use Rattle.imsm_base.specs.Fields.{number_at}
 use Rattle.imsm_base.specs.Layout.{Block, family_of, serial_of, unit_of}
 use Rattle.imsm_base.specs.Parts.{block_in}

@@ -1,7 +1,4 @@
-use Rattle.std.proofs.Common.{◌≡◌, List, ℕ, refl, sym, subst}
-use Rattle.imsm_base.specs.Layout.{Block}
-use Rattle.imsm_base.specs.Parts.{block_in}
-use Rattle.imsm_base.specs.Whole.{IsWholeBlock}
+use Rattle.std.proofs.Common.{refl, subst}
 use Rattle.imsm_base.proofs.Joined.{block_in-spelled}
 use Rattle.array_model.specs.Blocks.{Laid}
 use Rattle.array_model.specs.Meaning.{bytes_of_laid, SaysBlock}
