@@ -1,8 +1,8 @@
 -- An owned block stays laid under its edits.
+use Rattle.std.proofs.lemmas.Bool.{cases_order}
 use Rattle.std.proofs.Common.{◌≡◌, min, ℕ, ◌+◌, ◌*◌, ◌/◌, if◌then◌else◌, ◌^◌, ◌<◌, ◌≤◌, Bool, ◌-◌, ◌⊎◌, inl, inr, List, ◌++◌, length, take, drop, replicate, refl, sym, ◌∙◌, ap, subst, arith}
 use Rattle.std.specs.Global.{Vec}
 use Rattle.std.specs.Vec.{with_items}
-use Rattle.std.proofs.lemmas.Bool.{cases_order}
 use Rattle.std.proofs.Math.Seq.{take-append-add}
 use Rattle.std.proofs.lemmas.List.{with_items_is, append-nil, take_all, drop_all, drop-replicate, take-replicate, take-append-le, length-replicate}
 use Rattle.byteorder.specs.Endian.{little_bytes}
