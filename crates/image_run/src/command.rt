@@ -11,7 +11,7 @@ ghost use Rattle.image_run.specs.Endings.{EndsWithoutMemory, HasOnlyReads, IsRep
 
 use crate::images::read_images;
 use crate::opening::{OpenFault, open_all};
-use crate::outside::{Shelf, Sink};
+use crate::outside::{Shelf, Sink, Source};
 use crate::report::Report;
 use crate::status::{Status, end, end_unopened, end_without_memory};
 use crate::text::text_of;
@@ -98,16 +98,21 @@ fn run<H: Shelf, K: Sink>(
 /// The words are `assemble` and 1 to 16 words NAME=FILE. The status is 0 where the volume starts, 1 where the words are
 /// others, 2 where a disk of the container is absent, 6 where a line couldn't be written, 7 where an image couldn't be
 /// opened, 9 without memory, and 14 where an image isn't of the form that is started today.
-pub fn image_still<H: Shelf, K: Sink>(
+pub fn image_still<H: Shelf, S: Source, K: Sink>(
     alloc: Global,
     words: &[String],
     shelf: &mut H,
+    source: &mut S,
     sink: &mut K,
 ) -> Status
     requires unused { IsSomeAnd (H.held shelf.old) (IsUnused H.Held.serials H.Held.log) }
 
     // No disk is written or synced, whatever the status.
     ensures reads { IsSomeAnd (H.held shelf.new) (HasOnlyReads H.Held.log) }
+
+    // No command reads the source.
+    ensures source_left { S.left source.new ≡ S.left source.old }
+    ensures source_faults { S.faults_of source.new ≡ S.faults_of source.old }
 
     // When each status comes.
     ensures words { result.0 ≡ 1 → IsCommand (texts words.now) → ⊥ }
@@ -129,16 +134,21 @@ pub fn image_still<H: Shelf, K: Sink>(
 }
 
 /// Runs a command. All of them wait for nobody today.
-pub fn image_main<H: Shelf, K: Sink>(
+pub fn image_main<H: Shelf, S: Source, K: Sink>(
     alloc: Global,
     words: &[String],
     shelf: &mut H,
+    source: &mut S,
     sink: &mut K,
 ) -> Status
     requires unused { IsSomeAnd (H.held shelf.old) (IsUnused H.Held.serials H.Held.log) }
 
     // No disk is written or synced, whatever the status.
     ensures reads { IsSomeAnd (H.held shelf.new) (HasOnlyReads H.Held.log) }
+
+    // No command reads the source.
+    ensures source_left { S.left source.new ≡ S.left source.old }
+    ensures source_faults { S.faults_of source.new ≡ S.faults_of source.old }
 
     // When each status comes.
     ensures words { result.0 ≡ 1 → IsCommand (texts words.now) → ⊥ }
@@ -153,5 +163,5 @@ pub fn image_main<H: Shelf, K: Sink>(
     ensures told { IsReported result.0 → (images : List ImageWord) × IsAssemble (texts words.now) images × IsSomeAnd (H.held shelf.new)
         (Tells H.Held.serials H.Held.sizes H.Held.opening H.Held.log images (K.written sink.old) (K.written sink.new) result.0) }
 {
-    image_still(alloc, words, shelf, sink)
+    image_still(alloc, words, shelf, source, sink)
 }

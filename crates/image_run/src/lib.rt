@@ -15,8 +15,8 @@ mod words;
 
 pub use command::{image_main, image_still};
 pub use images::ImageRead;
-pub use memory::{MemFault, MemSink};
-pub use outside::{Shelf, ShelfFault, Sink, write_all};
+pub use memory::{MemFault, MemSink, MemSource};
+pub use outside::{Shelf, ShelfFault, Sink, Source, write_all};
 pub use report::Report;
 pub use shelf::{MemFile, MemShelf};
 pub use status::{Status, end_without_memory};
