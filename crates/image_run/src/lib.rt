@@ -22,4 +22,4 @@ pub use report::Report;
 pub use shelf::{MemFile, MemShelf};
 pub use source::{MAX_SOURCE_BYTES, SourceFault, read_all};
 pub use status::{Status, end_without_memory};
-pub use words::{ImageArg, image_of, parse};
+pub use words::{ImageArg, WordsFault, image_of, parse};
