@@ -96,9 +96,10 @@ fn run<H: Shelf, K: Sink>(
 
 /// Runs a command that waits for nobody.
 ///
-/// The words are `assemble` and 1 to 16 words NAME=FILE. The status is 0 where the volume starts, 1 where the words are
-/// others, 2 where a disk of the container is absent, 6 where a line couldn't be written, 7 where an image couldn't be
-/// opened, 9 without memory, and 14 where an image isn't of the form that is started today.
+/// The words are `assemble` and words NAME=FILE, at least one. The status is 0 where the volume starts, 1 where the words
+/// are others, 2 where a disk of the container is absent, 6 where a line couldn't be written, 7 where an image couldn't
+/// be opened, 9 without memory, 10 where more than 16 images are named, and 14 where an image isn't of the form that is
+/// started today.
 pub fn image_still<H: Shelf, S: Source, K: Sink>(
     alloc: Global,
     words: &[String],

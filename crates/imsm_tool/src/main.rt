@@ -41,10 +41,10 @@ fn main(rt: HostRuntime) -> ExitCode {
 #[cfg(test)]
 mod tests {
     use super::*;
-    use image_run::Sink;
+    use image_run::{Sink, SourceFault, read_all};
     use std::fs;
     use std::fs::File;
-    use std::io::Write;
+    use std::io::{Read, Write};
     use std::os::unix::fs::FileExt;
     use std::test::Fail;
 
@@ -99,6 +99,33 @@ mod tests {
         fn flush(&mut self) -> io::Result<()> {
             Err(io::Error::from(ErrorKind::StorageFull))
         }
+    }
+
+    /// A reader that gives nothing, and doesn't end.
+    #[derive(Drop)]
+    struct Unread;
+
+    impl Read for Unread {
+        fn read(&mut self, _into: &mut [u8]) -> io::Result<usize> {
+            Err(io::Error::from(ErrorKind::IsADirectory))
+        }
+    }
+
+    #[test]
+    fn input_is_read_to_its_end(rt: HostRuntime) -> Result<(), Fail> {
+        let alloc = rt.alloc();
+        let script = b"client 0 read 0 7\n";
+        let mut input = InSource::new(script.as_slice());
+        match read_all(alloc, &mut input) {
+            Ok(bytes) => assert_eq!(rt; bytes.as_slice(), script.as_slice()),
+            Err(fault) => assert_eq!(rt; Some(fault), None),
+        }
+        let mut input = InSource::new(Unread);
+        assert_eq!(rt;
+            read_all(alloc, &mut input).err(),
+            Some(SourceFault::Failed)
+        );
+        Ok(())
     }
 
     #[test]
