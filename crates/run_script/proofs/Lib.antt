@@ -1,0 +1,4 @@
+mod Numerals
+mod Cuts
+mod Readings
+mod Lines

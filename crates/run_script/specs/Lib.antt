@@ -1,0 +1,6 @@
+pub mod Numbers
+pub mod Forms
+pub mod Grammar
+pub mod Limits
+pub mod Pieces
+pub mod Scripts

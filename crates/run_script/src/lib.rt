@@ -1,0 +1,13 @@
+//! The text of a script: operations of clients, and turns.
+#![tactic(auto)]
+
+mod fault;
+mod grammar;
+mod limits;
+mod numbers;
+mod order;
+mod parse;
+mod pieces;
+
+pub use fault::{LimitKind, LineKind, ScriptFault};
+pub use parse::parse_script;
