@@ -2,3 +2,5 @@ mod Numerals
 mod Cuts
 mod Readings
 mod Lines
+mod Ends
+mod Bounds

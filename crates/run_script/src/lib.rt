@@ -8,6 +8,8 @@ mod numbers;
 mod order;
 mod parse;
 mod pieces;
+#[cfg(test)]
+mod tests;
 
 pub use fault::{LimitKind, LineKind, ScriptFault};
 pub use parse::parse_script;

@@ -3,6 +3,7 @@ ghost use Rattle.std.specs.Prelude.{◌≡◌, length, OnOk, IfOk, IfErr, Some, 
 ghost use Rattle.run_script.specs.Grammar.{asked_by, lines_of};
 ghost use Rattle.run_script.specs.Limits.{Refuses};
 ghost use Rattle.run_script.specs.Scripts.{AreRight, IsCause, orders_in, script_of, with_line, wrong_with};
+ghost use Rattle.run_script.specs.Within.{IsWithin};
 
 use crate::fault::ScriptFault;
 use crate::grammar::asked_by;
@@ -31,6 +32,8 @@ pub fn parse_script(alloc: Global, text: &[u8], turns: bool) -> Result<Script, S
     ensures whole { OnOk result (AreRight turns (lines_of text.now) (length (lines_of text.now))) }
     // The script is what the lines ask for, in their order.
     ensures script { IfOk result (λ script. script ≡ script_of (orders_in turns (lines_of text.now))) }
+    // No limit is passed, and what it names may be there.
+    ensures within { IfOk result (λ script. IsWithin script) }
     // Of a fault other than want of memory: it is what is wrong with the first line that isn't right.
     ensures fault { IfErr result (λ fault. IsCause turns (lines_of text.now) fault) }
 {

@@ -1,7 +1,8 @@
-use Rattle.std.proofs.Common.{ℕ, List, take, sym, ◌∙◌, ap, arith}
+use Rattle.std.proofs.Common.{◌+◌, ℕ, List, take, sym, ◌∙◌, ap, arith}
 use Rattle.std.proofs.lemmas.Result.{err_from_is_err_and}
 use Rattle.run_script.specs.Grammar.{asked_by, lines_of}
 use Rattle.run_script.specs.Scripts.{IsCause, orders_in, script_of, with_line}
+use Rattle.run_script.proofs.Bounds.{within_more}
 use Rattle.run_script.proofs.Lines.{Next, few_lines, next_line, script_more, right_more, wrong_next, cause}
 use Rattle.run_script.proofs.parse.parse_script.Goals as goal
 
@@ -23,6 +24,7 @@ loop-line-preserved c =
       left = next.left;
       script = c.in_ok-push_line.ensures.ok ∙ ap (λ s. with_line s (asked_by c.args.turns line)) c.loop-line.invariant.script
           ∙ sym (ap (λ front. script_of (orders_in c.args.turns front)) next.front ∙ script_more c.args.turns (take n lines) line);
+      within = rw (c.in_ok-push_line.ensures.ok) (within_more c.loop-line.script (n + 1) c.args.turns line c.loop-line.invariant.within c.in_ok-push_line.ensures.right);
       right = right_more c.args.turns lines n c.loop-line.invariant.right
           (wrong_next c.args.turns lines n line c.loop-line.script next.at c.loop-line.invariant.script ∙ c.in_ok-push_line.ensures.right);
     }
