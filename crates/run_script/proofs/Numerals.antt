@@ -11,7 +11,7 @@ use Rattle.std.proofs.lemmas.Int.Digits.{digits_value-lt}
 use Rattle.std.proofs.lemmas.List.Elements.{All-from_recursion}
 use Rattle.std.proofs.lemmas.Str.{IsUtf8-from_ascii}
 use Rattle.std.proofs.lemmas.Str.Ascii.{IsAscii-from_all}
-use Rattle.run_script.specs.Numbers.{is_hex_digit, is_decimal, value_of}
+use Rattle.run_script.specs.Numbers.{is_hex_digit, is_decimal, is_value, value_of}
 
 pub both : (a b : Bool) → (a && b) ≡ true → (a ≡ true) × (b ≡ true)
 both true b h = (refl, h)
@@ -46,13 +46,18 @@ decimal_numeral word is =
     let some : nat_lt 0 (length word) ≡ true = (both first second most.0).0 in
     (grind (arith, nat_tests, some), all_digits 10 is_ascii_digit decimal_digit word most.1)
 
-pub hex_numeral : (word : List ℕ) → length word ≡ 16 → list_all is_hex_digit word ≡ true → IsNumeral 16 word
-hex_numeral word long all = (omega (arith, long), all_digits 16 is_hex_digit hex_digit word all)
+pub hex_numeral : (word : List ℕ) → is_value word ≡ true → IsNumeral 16 word
+hex_numeral word is =
+    let parts = both (length word == 16) (list_all is_hex_digit word) is in
+    let long : length word ≡ 16 = grind (arith, nat_tests, parts.0) in
+    (omega (arith, long), all_digits 16 is_hex_digit hex_digit word parts.1)
 
 -- 16 hexadecimal digits have 64 bits
-pub hex_value : (word : List ℕ) (r : Option ℕ) → length word ≡ 16 → list_all is_hex_digit word ≡ true
+pub hex_value : (word : List ℕ) (r : Option ℕ) → is_value word ≡ true
     → r ≡ (if nat_lt (digits_value 16 word) 0x1_0000_0000_0000_0000 then Some (digits_value 16 word) else None) → r ≡ value_of word
-hex_value word r long all is =
-    let below : digits_value 16 word < 16 ^ length word = digits_value-lt 16 word (hex_numeral word long all).1 in
+hex_value word r value is =
+    let parts = both (length word == 16) (list_all is_hex_digit word) value in
+    let long : length word ≡ 16 = grind (arith, nat_tests, parts.0) in
+    let below : digits_value 16 word < 16 ^ length word = digits_value-lt 16 word (hex_numeral word value).1 in
     let fits : nat_lt (digits_value 16 word) 0x1_0000_0000_0000_0000 ≡ true = grind (arith, nat_tests) in
-    is ∙ rw (fits, long, all) refl
+    is ∙ rw (fits, value) refl

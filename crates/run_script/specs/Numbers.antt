@@ -16,6 +16,10 @@ number_of word = if is_decimal word && nat_lt (digits_value 10 word) (2 ^ 64) th
 abbrev pub is_hex_digit : ℕ → Bool
 is_hex_digit c = is_ascii_digit c || (nat_le 0x61 c && nat_le c 0x66)
 
--- the value that a word spells, if it is 16 such digits
+-- 16 such digits
+abbrev pub is_value : List ℕ → Bool
+is_value word = length word == 16 && list_all is_hex_digit word
+
+-- the value that a word spells, if it is one
 abbrev pub value_of : List ℕ → Option ℕ
-value_of word = if length word == 16 && list_all is_hex_digit word then Some (digits_value 16 word) else None
+value_of word = if is_value word then Some (digits_value 16 word) else None

@@ -3,7 +3,7 @@ ghost use Rattle.std.specs.Prelude.{◌≡◌, ◌==◌, ◌&&◌, ◌||◌, ◌
 ghost use Rattle.std.specs.Char.{is_ascii_digit};
 ghost use Rattle.std.specs.List.{list_all};
 ghost use Rattle.std.specs.Str.Parse.{IsNumeral, digits_value};
-ghost use Rattle.run_script.specs.Numbers.{is_decimal, is_hex_digit, number_of, value_of};
+ghost use Rattle.run_script.specs.Numbers.{is_decimal, is_hex_digit, is_value, number_of, value_of};
 
 fn are_digits(word: &[u8]) -> bool
     ensures { result ≡ list_all is_ascii_digit word.now }
@@ -53,11 +53,17 @@ pub fn number_of(word: &[u8]) -> Option<u64>
     }
 }
 
+fn is_value(word: &[u8]) -> bool
+    ensures { result ≡ is_value word.now }
+{
+    word.len() == 16 && are_hex_digits(word)
+}
+
 /// The value that a word of 16 lower-case hexadecimal digits spells.
 pub fn value_of(word: &[u8]) -> Option<u64>
     ensures { result ≡ value_of word.now }
 {
-    if word.len() == 16 && are_hex_digits(word) {
+    if is_value(word) {
         parsed(word, 16)
     } else {
         None

@@ -3,8 +3,7 @@ use Rattle.run_script.proofs.Numerals.{hex_numeral, hex_value}
 use Rattle.run_script.proofs.numbers.value_of.Goals as goal
 
 pub parsed-requires-clause-numeral : goal.parsed-requires-clause-numeral
-parsed-requires-clause-numeral c = hex_numeral c.args.word.now c.if-word-eq16.true (sym c.are_hex_digits.ensures ∙ c.if-are_hex_digits.true)
+parsed-requires-clause-numeral c = hex_numeral c.args.word.now (sym c.is_value.ensures ∙ c.if-is_value.true)
 
-pub returns-then-are_hex_digits : goal.returns-then-are_hex_digits
-returns-then-are_hex_digits c =
-    hex_value c.args.word.now c.parsed.result c.if-word-eq16.true (sym c.are_hex_digits.ensures ∙ c.if-are_hex_digits.true) c.parsed.ensures
+pub returns-then-is_value : goal.returns-then-is_value
+returns-then-is_value c = hex_value c.args.word.now c.parsed.result (sym c.is_value.ensures ∙ c.if-is_value.true) c.parsed.ensures
