@@ -1,6 +1,6 @@
 -- What holds of every order that a form ends in holds of what is read by it.
 use Rattle.std.proofs.Common.{◌≡◌, ◌<◌, ℕ, List, [], ◌∷◌, Bool, true, false, arith, refl, subst, Some, None, Option, Ok, Err, Result}
-use Rattle.std.specs.Prelude.{nat_le, if◌then◌else◌, ⊤}
+use Rattle.std.specs.Prelude.{nat_lt, if◌then◌else◌, ⊤}
 use Rattle.std.specs.Str.{bytes_eq}
 use Rattle.std.proofs.lemmas.Bool.Decides.{nat_tests}
 use Rattle.imsm_base.specs.declared.bounds.TheConstants.{MAX_VOLUMES}
@@ -61,7 +61,7 @@ IsOrder (Operation client kind) = NamesVolume kind
 IsOrder (Turns turn count) = IsTurn turn
 IsOrder (ClientTurns client count) = ⊤
 
-is_volume : (n : ℕ) → nat_le n 1 ≡ true → n < MAX_VOLUMES
+is_volume : (n : ℕ) → nat_lt n MAX_VOLUMES ≡ true → n < MAX_VOLUMES
 is_volume n low = grind (arith, nat_tests)
 
 client_ends : EndsIn IsOrder client_form

@@ -4,3 +4,4 @@ mod Readings
 mod Lines
 mod Ends
 mod Bounds
+mod WrongWords

@@ -1,6 +1,7 @@
 -- The lines of a script. Source: this project's own.
-use Rattle.std.specs.Prelude.{ℕ, ◌==◌, nat_le, not, Bool, true, List, [], ◌∷◌, codes, Option, Some, None, Result, Ok, Err, if◌then◌else◌}
+use Rattle.std.specs.Prelude.{ℕ, ◌==◌, nat_lt, not, Bool, true, List, [], ◌∷◌, codes, Option, Some, None, Result, Ok, Err, if◌then◌else◌}
 use Rattle.std.specs.List.{slice_split}
+use Rattle.imsm_base.specs.declared.bounds.TheConstants.{MAX_VOLUMES}
 use Rattle.imsm_base.specs.declared.units.VolNo.{VolNo}
 use Rattle.array_model.specs.declared.script.OpKind.TheVariants.{Write, Read}
 use Rattle.array_model.specs.declared.script.Turn.{Turn}
@@ -11,13 +12,13 @@ use Rattle.run_script.specs.declared.fault.LineKind.{LineKind}
 use Rattle.run_script.specs.declared.fault.LineKind.TheVariants as kinds
 use Rattle.run_script.specs.Forms.{Form, Ends, Keyword, Numeral, Digits, Wrong, reading}
 
--- a number, without any bound but that of 64 bits
+-- a number, without any bound but that of 64 bits: a client, a sector
 abbrev pub number : (ℕ → Form) → Form
 number next = Numeral (λ n. true) next
 
 -- the number of a volume, 0 or 1
 abbrev pub volume : (VolNo → Form) → Form
-volume next = Numeral (λ n. nat_le n 1) (λ n. next (record { 0 = n }))
+volume next = Numeral (λ n. nat_lt n MAX_VOLUMES) (λ n. next (record { 0 = n }))
 
 -- how many times, at least once
 abbrev pub count : (ℕ → Form) → Form

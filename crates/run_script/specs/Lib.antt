@@ -5,3 +5,4 @@ pub mod Limits
 pub mod Within
 pub mod Pieces
 pub mod Scripts
+pub mod FirstWrong

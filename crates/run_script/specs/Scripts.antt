@@ -28,12 +28,6 @@ turns_of (ClientTurns client count) = replicate count (turn.Client client)
 abbrev pub script_of : List Order → ScriptState
 script_of orders = record { ops = filter_map operation_of orders; asks = []; turns = flat_map turns_of orders }
 
--- a script with one more order
-abbrev pub with_order : ScriptState → Order → ScriptState
-with_order s (Operation c k) = record s { ops = s.ops ++ record { client = c; kind = k } ∷ [] }
-with_order s (Turns turn count) = record s { turns = s.turns ++ replicate count turn }
-with_order s (ClientTurns client count) = record s { turns = s.turns ++ replicate count (turn.Client client) }
-
 abbrev pub order_in : Result (Option Order) LineKind → Option Order
 order_in (Ok asked) = asked
 order_in (Err kind) = None
@@ -42,24 +36,15 @@ order_in (Err kind) = None
 abbrev pub orders_in : Bool → List (List ℕ) → List Order
 orders_in turns lines = filter_map (λ line. order_in (asked_by turns line)) lines
 
+-- what is wrong with a line of this number, behind a script: its first wrong word, and else the limit that it passes
 abbrev pub wrong_with : ScriptState → ℕ → Result (Option Order) LineKind → Option ScriptFault
 wrong_with before number (Err kind) = Some (Line number kind)
 wrong_with before number (Ok None) = None
 wrong_with before number (Ok (Some order)) = limit_of before order
 
--- a script with what one more line asks for
-abbrev pub with_line : ScriptState → Result (Option Order) LineKind → ScriptState
-with_line s (Err kind) = s
-with_line s (Ok None) = s
-with_line s (Ok (Some order)) = with_order s order
-
--- what is wrong with a line of this number, behind those before it: its first wrong word, and else the limit that it passes
-abbrev pub wrong_line : Bool → List (List ℕ) → ℕ → List ℕ → Option ScriptFault
-wrong_line turns before number line = wrong_with (script_of (orders_in turns before)) number (asked_by turns line)
-
 abbrev pub wrong_in : Bool → List (List ℕ) → ℕ → Option (List ℕ) → Option ScriptFault
 wrong_in turns lines k None = None
-wrong_in turns lines k (Some line) = wrong_line turns (take k lines) (k + 1) line
+wrong_in turns lines k (Some line) = wrong_with (script_of (orders_in turns (take k lines))) (k + 1) (asked_by turns line)
 
 -- what is wrong with line k, counted from 0
 abbrev pub wrong_at : Bool → List (List ℕ) → ℕ → Option ScriptFault
@@ -80,3 +65,15 @@ abbrev pub IsCause : Bool → List (List ℕ) → ScriptFault → Type 0
 IsCause turns lines Memory = ⊤
 IsCause turns lines (Line number kind) = IsFirstWrong turns lines (Line number kind)
 IsCause turns lines (Limit kind number) = IsFirstWrong turns lines (Limit kind number)
+
+-- a script with one more order
+abbrev pub with_order : ScriptState → Order → ScriptState
+with_order s (Operation c k) = record s { ops = s.ops ++ record { client = c; kind = k } ∷ [] }
+with_order s (Turns turn count) = record s { turns = s.turns ++ replicate count turn }
+with_order s (ClientTurns client count) = record s { turns = s.turns ++ replicate count (turn.Client client) }
+
+-- a script with what one more line asks for
+abbrev pub with_line : ScriptState → Result (Option Order) LineKind → ScriptState
+with_line s (Err kind) = s
+with_line s (Ok None) = s
+with_line s (Ok (Some order)) = with_order s order

@@ -3,6 +3,7 @@
 
 mod fault;
 mod grammar;
+mod law;
 mod limits;
 mod numbers;
 mod order;
@@ -12,4 +13,6 @@ mod pieces;
 mod tests;
 
 pub use fault::{LimitKind, LineKind, ScriptFault};
+pub use law::first_wrong_word;
+pub use limits::{MAX_CLIENT, MAX_OPS, MAX_TURNS};
 pub use parse::parse_script;
