@@ -1,5 +1,5 @@
 //! What a run tells: events, stamped by how many device calls were made before them.
-ghost use Rattle.std.specs.Prelude.{◌≡◌, ◌<◌, List, [], ◌∷◌, ◌++◌, length, IfOk};
+ghost use Rattle.std.specs.Prelude.{◌≡◌, ◌<◌, [], ◌∷◌, ◌++◌, length, IfOk};
 
 use imsm_base::{DiskNo, Sector, VolNo};
 use std::alloc::Global;

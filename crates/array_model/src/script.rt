@@ -1,5 +1,5 @@
 //! What a run is asked to do: operations of clients, asks of the manager, and turns.
-ghost use Rattle.std.specs.Prelude.{◌≡◌, List, [], ◌∷◌, ◌++◌, OnOk, OnErr};
+ghost use Rattle.std.specs.Prelude.{◌≡◌, [], ◌∷◌, ◌++◌, OnOk, OnErr};
 
 use imsm_base::{DiskNo, VolNo};
 use std::alloc::{AllocError, Global};

@@ -1,5 +1,5 @@
 -- The law of wrong words: what is found wrong with a line is its first wrong word. Source: this project's own.
-use Rattle.std.specs.Prelude.{◌≡◌, Bool, List, [], ◌∷◌, ◌++◌, Ok, Err, ℕ, ◌⊎◌}
+use Rattle.std.specs.Prelude.{◌≡◌, ◌≢◌, Bool, List, [], ◌∷◌, ◌++◌, Ok, Err, ℕ, ◌⊎◌}
 use Rattle.run_script.specs.declared.order.Order.{Order}
 use Rattle.run_script.specs.declared.fault.LineKind.{LineKind}
 use Rattle.run_script.specs.declared.fault.LineKind.TheVariants.{Missing}
@@ -21,7 +21,7 @@ pub record HasWrongWord (form : Form) (words : List (List ℕ)) : Type 0 where
   pub begins : Begins form front
   pub wrong : Begins form (front ++ word ∷ []) → ⊥
 
--- with kind `missing` the words begin a line and there is one too few; with another one of them is the first wrong one
+-- with kind `missing` the words begin a line, and with any other kind one of them is the first wrong one
 abbrev pub FirstWrongWord : Type 0
 FirstWrongWord = (turns : Bool) (words : List (List ℕ)) (kind : LineKind) → reading (line_form turns) words ≡ Err kind
-    → ((kind ≡ Missing) × Begins (line_form turns) words) ⊎ HasWrongWord (line_form turns) words
+    → ((kind ≡ Missing) × Begins (line_form turns) words) ⊎ ((kind ≢ Missing) × HasWrongWord (line_form turns) words)

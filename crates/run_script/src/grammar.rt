@@ -1,9 +1,8 @@
 //! What a line asks for, word by word.
-ghost use Rattle.std.specs.Prelude.{◌≡◌, ◌==◌, List, ℕ, nat_le, not, true, if◌then◌else◌};
+ghost use Rattle.std.specs.Prelude.{◌≡◌};
 ghost use Rattle.std.specs.Str.{bytes_eq};
-ghost use Rattle.imsm_base.specs.declared.units.VolNo.{VolNo};
-ghost use Rattle.run_script.specs.Forms.{Form, Ends, Digits, Numeral, Wrong, Reads, ReadsWord, reading};
-ghost use Rattle.run_script.specs.Grammar.{asked_by, client_form, client_turns_form, count, is_skipped, line_form, number, operation_form, quiet_form, read_form, sync_form, turn_form, turns_form, volume, words_of, write_form};
+ghost use Rattle.run_script.specs.Forms.{Ends, Digits, Reads, ReadsWord, reading};
+ghost use Rattle.run_script.specs.Grammar.{asked_by, client_form, client_turns_form, count, is_skipped, line_form, number, operation_form, quiet_form, read_form, sync_form, turn_form, turns_form, volume, write_form};
 
 use crate::fault::LineKind;
 use crate::numbers::{number_of, value_of};

@@ -1,6 +1,6 @@
 //! A script with one more order, within the limits.
-ghost use Rattle.std.specs.Prelude.{◌≡◌, ◌+◌, ◌++◌, ◌≤◌, length, replicate, OnOk, IfOk, IfErr, Some, None};
-ghost use Rattle.run_script.specs.Limits.{client_limit, limit_of, ops_limit, turns_limit, Refuses};
+ghost use Rattle.std.specs.Prelude.{◌≡◌, ◌+◌, ◌++◌, length, replicate, OnOk, IfOk, IfErr, Some, None};
+ghost use Rattle.run_script.specs.Limits.{client_limit, limit_of, turns_limit, Refuses};
 ghost use Rattle.run_script.specs.Scripts.{with_order};
 ghost use Rattle.run_script.specs.declared.order.Order.TheVariants.{Operation};
 ghost use Rattle.run_script.specs.declared.fault.ScriptFault.TheVariants.{Memory};

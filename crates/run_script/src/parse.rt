@@ -1,5 +1,5 @@
 //! The script that a text is.
-ghost use Rattle.std.specs.Prelude.{◌≡◌, length, OnOk, IfOk, IfErr, Some, None};
+ghost use Rattle.std.specs.Prelude.{◌≡◌, length, OnOk, IfOk, IfErr, None};
 ghost use Rattle.run_script.specs.Grammar.{asked_by, lines_of};
 ghost use Rattle.run_script.specs.Limits.{Refuses};
 ghost use Rattle.run_script.specs.Scripts.{AreRight, IsCause, orders_in, script_of, with_line, wrong_with};
