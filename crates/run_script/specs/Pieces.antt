@@ -1,4 +1,4 @@
--- Pieces of bytes, one after the other, between separators.
+-- Pieces of bytes, one after the other, between separators. Source: this project's own.
 use Rattle.std.specs.Prelude.{◌≡◌, ℕ, ◌==◌, List, [], ◌∷◌, Option, Some, None}
 use Rattle.std.specs.Borrow.{Bor}
 use Rattle.std.specs.List.{slice_split}
