@@ -8,10 +8,11 @@ use crate::pieces::{Line, push_word};
 use imsm_base::Sector;
 
 /// Whether a sector is 64 times its first eight bytes: then it is what it is eight bytes further on.
-fn repeats(sector: &Sector) -> bool
-    ensures { result ≡ is_repeated sector.now.0 }
+fn repeats(sector: &[u8]) -> bool
+    requires { length sector.now ≡ 512 }
+    ensures { result ≡ is_repeated sector.now }
 {
-    sector.0[8..] == sector.0[..504]
+    sector[8..] == sector[..504]
 }
 
 fn push_hex(line: &mut Line, bytes: &[u8])
@@ -32,7 +33,7 @@ pub fn push_value(line: &mut Line, sector: &Sector)
     ensures items { line.new.items ≡ line.old.items ++ spaced (value_word sector.now) }
     ensures len { array_vec_len line.new ≤ array_vec_len line.old + 1025 }
 {
-    if repeats(sector) {
+    if repeats(&sector.0) {
         push_hex(line, &sector.0[..8]);
     } else {
         push_hex(line, &sector.0);
