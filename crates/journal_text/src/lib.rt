@@ -7,6 +7,6 @@ mod pieces;
 mod value;
 mod words;
 
-pub use law::example_of_a_text;
+pub use law::{example_of_a_text, lines_spell_one_journal};
 pub use line::line_of;
 pub use pieces::{LINE_BYTES, Line};
