@@ -1,5 +1,5 @@
 -- Two journals with the same text are equal.
-use Rattle.std.proofs.Common.{◌≡◌, ℕ, ◌+◌, ◌<◌, false, List, [], ◌∷◌, ◌++◌, length, drop, refl, sym, ap, ◌∙◌, arith, append_assoc}
+use Rattle.std.proofs.Common.{◌≡◌, ℕ, ◌<◌, false, List, [], ◌∷◌, ◌++◌, length, drop, refl, sym, ap, ◌∙◌, arith, append_assoc}
 use Rattle.std.specs.Prelude.{slice_index_or}
 use Rattle.std.specs.List.{All, slice_split}
 use Rattle.std.specs.Fmt.{decimal}
@@ -27,8 +27,8 @@ cut_line e rest fits =
     let words = spelled (event_words e.event) in
     let laid : entry_line e ++ rest ≡ body e ++ 10 ∷ rest = simp append_assoc in
     let clear = All-append (λ b. is_feed b ≡ false) (decimal e.stamp) words
-          (without 10 (omega arith) (decimal e.stamp) (decimal_plain e.stamp fits.0))
-          (unfed (event_words e.event) (event_plain e.event fits.1)) in
+    (without 10 (omega arith) (decimal e.stamp) (decimal_plain e.stamp fits.0))
+    (unfed (event_words e.event) (event_plain e.event fits.1)) in
     ap (λ bs. slice_split is_feed bs) laid ∙ slice_split_at is_feed (body e) 10 rest clear refl
 
 abbrev words_of : Entry → List (List ℕ)
@@ -45,9 +45,9 @@ entry_told e fits =
 entry_apart : (e f : Entry) → FitsEntry e → FitsEntry f → body e ≡ body f → e ≡ f
 entry_apart e f fits fits' same =
     let words : words_of e ≡ words_of f =
-      sym (cut_words (decimal e.stamp) (event_words e.event) (decimal_plain e.stamp fits.0) (event_plain e.event fits.1))
-      ∙ (ap (λ bs. slice_split is_space bs) same
-        ∙ cut_words (decimal f.stamp) (event_words f.event) (decimal_plain f.stamp fits'.0) (event_plain f.event fits'.1)) in
+    sym (cut_words (decimal e.stamp) (event_words e.event) (decimal_plain e.stamp fits.0) (event_plain e.event fits.1))
+    ∙ (ap (λ bs. slice_split is_space bs) same
+    ∙ cut_words (decimal f.stamp) (event_words f.event) (decimal_plain f.stamp fits'.0) (event_plain f.event fits'.1)) in
     sym (entry_told e fits) ∙ (ap (λ ws. entry_in ws) words ∙ entry_told f fits')
 
 no_line : (e : Entry) (rest : List ℕ) → FitsEntry e → [] ∷ [] ≡ slice_split is_feed (entry_line e ++ rest) → ⊥
@@ -64,7 +64,7 @@ lines_apart (e ∷ a) (f ∷ b) fits fits' same =
     let here = All-head FitsEntry e a fits in
     let here' = All-head FitsEntry f b fits' in
     let lines : body e ∷ slice_split is_feed (journal_text a) ≡ body f ∷ slice_split is_feed (journal_text b) =
-      sym (cut_line e (journal_text a) here) ∙ (same ∙ cut_line f (journal_text b) here') in
+    sym (cut_line e (journal_text a) here) ∙ (same ∙ cut_line f (journal_text b) here') in
     let head : e ≡ f = entry_apart e f here here' (ap (λ ls. slice_index_or ls 0 []) lines) in
     let tail : a ≡ b = lines_apart a b (All-tail FitsEntry e a fits) (All-tail FitsEntry f b fits') (ap (λ ls. drop 1 ls) lines) in
     ap (λ x. x ∷ a) head ∙ ap (λ xs. f ∷ xs) tail

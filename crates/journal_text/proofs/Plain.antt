@@ -1,23 +1,22 @@
 -- No word of an entry has a space or a line feed in it.
-use Rattle.std.proofs.Common.{◌≡◌, ℕ, zero, suc, ◌+◌, ◌*◌, ◌/◌, ◌%◌, ◌<◌, ◌≤◌, ◌^◌, Bool, true, false, List, [], ◌∷◌, ◌++◌, get_or, length, take, refl, ap, ◌∙◌, arith}
-use Rattle.std.specs.Prelude.{nat_le, ◌&&◌, slice_index, if◌then◌else◌, ⊤}
+use Rattle.std.proofs.Common.{◌≡◌, ℕ, zero, suc, ◌/◌, ◌%◌, ◌<◌, ◌≤◌, ◌^◌, Bool, true, false, List, [], ◌∷◌, get_or, take, refl, arith}
+use Rattle.std.specs.Prelude.{nat_le, ◌&&◌, slice_index, if◌then◌else◌}
 use Rattle.std.specs.Fmt.{decimal}
-use Rattle.std.specs.List.{All, list_all}
+use Rattle.std.specs.List.{All}
 use Rattle.std.proofs.lemmas.Fmt.{decimal_is_IsNumeral}
 use Rattle.std.proofs.lemmas.Str.Parse.{digit_at}
 use Rattle.std.proofs.lemmas.Bool.Decides.{nat_tests, Decides-below_and}
 use Rattle.std.proofs.lemmas.List.Elements.{All-from_get_or, All-head, All-tail, All-take}
 use Rattle.std.proofs.lemmas.List.Sums.{list_all-from_AllPass}
 use Rattle.hex.specs.Hex.{encode_with, encode_lower, lower_digits}
-use Rattle.imsm_base.specs.declared.units.Sector.{Sector}
 use Rattle.array_model.specs.declared.journal.Event.{Event}
 use Rattle.array_model.specs.declared.journal.Event.TheVariants.{Begin, End, Spare, Ready, Pass, Point, PassEnd, Active, Clean, Unblock, Posted, Applied, Declined, Submit, Pending, Ack, Idle, Fault, Kill, Takeover}
 use Rattle.array_model.specs.declared.journal.Answer.{Answer}
 use Rattle.array_model.specs.declared.journal.Answer.TheVariants.{Done, Value, Past, Failed, NoSpare}
 use Rattle.array_model.specs.declared.journal.DeclinedKind.{DeclinedKind}
 use Rattle.array_model.specs.declared.journal.DeclinedKind.TheVariants.{Stale, NotSpare, Full, Large, NoVolume, Name, NoDisk, Member, Small, NotFailed, InUse}
-use Rattle.journal_text.specs.Lines.{kind_word, value_word, answer_words, event_words, is_repeated}
-use Rattle.journal_text.specs.Fits.{IsByte, IsSector, FitsAnswer, FitsEvent}
+use Rattle.journal_text.specs.Lines.{kind_word, answer_words, event_words, is_repeated}
+use Rattle.journal_text.specs.Fits.{IsByte, FitsAnswer, FitsEvent}
 use Rattle.journal_text.proofs.Cut.{IsPlain, ArePlain}
 
 at_least : (b : ℕ) → 48 ≤ b → nat_le 48 b ≡ true
@@ -36,7 +35,7 @@ digits_plain (suc n) = nat_le 48 (slice_index lower_digits n) && digits_plain n
 digit_plain : (d : ℕ) → d < 16 → nat_le 48 (slice_index lower_digits d) ≡ true
 digit_plain =
     (Decides-below_and (λ k. nat_le 48 (slice_index lower_digits k)) (λ k. nat_le 48 (slice_index lower_digits k) ≡ true) digits_plain
-      (λ k. (λ h. h, λ h. h)) refl (λ n. refl) 16).0 refl
+    (λ k. (λ h. h, λ h. h)) refl (λ n. refl) 16).0 refl
 
 both : (x y : Bool) → x ≡ true → y ≡ true → (x && y) ≡ true
 both x y h k = rw (h, k) refl

@@ -1,5 +1,5 @@
 -- A list is copies of its front exactly where it is what it is one front further on.
-use Rattle.std.proofs.Common.{◌≡◌, ℕ, zero, suc, ◌+◌, ◌*◌, ◌≤◌, List, [], ◌∷◌, ◌++◌, take, drop, length, refl, sym, ap, ◌∙◌, arith}
+use Rattle.std.proofs.Common.{◌≡◌, ℕ, zero, suc, ◌+◌, ◌*◌, ◌≤◌, List, ◌++◌, take, drop, length, sym, ap, ◌∙◌, arith}
 use Rattle.std.proofs.lemmas.List.{append-nil, append_assoc, take_all, take_at, drop_at, take-append-drop, take-append-le, drop-take, length-drop, length-take-le, length-append}
 use Rattle.std.proofs.lemmas.Slice.Eq.{bytes_eq-Decides}
 use Rattle.std.proofs.lemmas.Bool.Decides.{same_from_decides, Decides-like}
@@ -26,11 +26,11 @@ copies (suc n) xs len e =
     let more : 8 * suc n ≡ 8 + 8 * n = omega arith in
     let length_rest : length (drop 8 xs) ≡ 8 * suc n = length-drop 8 xs ∙ omega arith in
     let further : drop 8 (drop 8 xs) ≡ take (8 * n) (drop 8 xs) =
-      ap (λ ys. drop 8 ys) e ∙ (ap (λ k. drop 8 (take k xs)) more ∙ drop-take 8 (8 * n) xs) in
+    ap (λ ys. drop 8 ys) e ∙ (ap (λ k. drop 8 (take k xs)) more ∙ drop-take 8 (8 * n) xs) in
     let room : 8 ≤ length (take (8 * suc n) xs) = omega (arith, ap (λ ys. length ys) e) in
     let front : take 8 (drop 8 xs) ≡ take 8 xs = ap (λ ys. take 8 ys) e ∙ take_front 8 (8 * suc n) xs room in
     let rest : drop 8 xs ≡ repeat (suc n) (take 8 xs) =
-      copies n (drop 8 xs) length_rest further ∙ ap (λ ys. repeat (suc n) ys) front in
+    copies n (drop 8 xs) length_rest further ∙ ap (λ ys. repeat (suc n) ys) front in
     sym (take-append-drop 8 xs) ∙ ap (λ ys. take 8 xs ++ ys) rest
 
 copied : (n : ℕ) (xs front : List ℕ) → length front ≡ 8 → xs ≡ repeat (suc n) front → drop 8 xs ≡ take (8 * n) xs
@@ -38,7 +38,7 @@ copied n xs front len e =
     let length_all : length (repeat n front) ≡ 8 * n = length-repeat n front ∙ omega (arith, ap (λ k. n * k) len) in
     ap (λ ys. drop 8 ys) e
     ∙ (drop_at front (repeat n front) 8 len
-      ∙ sym (ap (λ ys. take (8 * n) ys) (e ∙ sym (repeat_behind n front)) ∙ take_at (repeat n front) front (8 * n) length_all))
+    ∙ sym (ap (λ ys. take (8 * n) ys) (e ∙ sym (repeat_behind n front)) ∙ take_at (repeat n front) front (8 * n) length_all))
 
 pub shifted : (xs : List ℕ) → length xs ≡ 512 → bytes_eq (drop 8 xs) (take 504 xs) ≡ bytes_eq xs (repeat 64 (take 8 xs))
 shifted xs len =

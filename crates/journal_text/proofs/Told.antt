@@ -1,6 +1,6 @@
 -- The words of an entry tell it: what reads them gives the entry back.
-use Rattle.std.proofs.Common.{◌≡◌, ℕ, ◌+◌, ◌*◌, ◌<◌, ◌≤◌, ◌^◌, Bool, true, false, List, [], ◌∷◌, length, take, drop, refl, sym, ap, ◌∙◌, inl, inr, arith, lit<}
-use Rattle.std.specs.Prelude.{◌==◌, if◌then◌else◌, slice_index, slice_index_or, codes}
+use Rattle.std.proofs.Common.{◌≡◌, ℕ, ◌<◌, ◌^◌, Bool, true, false, List, [], length, take, drop, refl, sym, ap, ◌∙◌, inl, inr, arith, lit<}
+use Rattle.std.specs.Prelude.{◌==◌, if◌then◌else◌, slice_index_or, codes}
 use Rattle.std.specs.List.{All, repeat}
 use Rattle.std.specs.Str.{bytes_eq}
 use Rattle.std.specs.Str.Parse.{digits_value}
@@ -13,7 +13,6 @@ use Rattle.std.proofs.lemmas.List.Elements.{All-take, All-get_or}
 use Rattle.std.proofs.lemmas.Slice.Eq.{bytes_eq-Decides}
 use Rattle.hex.specs.Hex.{IsBytes, decode_of, encode_lower, lower_digits}
 use Rattle.hex.proofs.HexLemmas.{decode_of-encode_lower, length-encode_with}
-use Rattle.imsm_base.specs.declared.units.Sector.{Sector}
 use Rattle.imsm_base.specs.declared.units.DiskNo.{DiskNo}
 use Rattle.imsm_base.specs.declared.units.VolNo.{VolNo}
 use Rattle.array_model.specs.declared.journal.Event.{Event}
@@ -22,8 +21,8 @@ use Rattle.array_model.specs.declared.journal.Answer.{Answer}
 use Rattle.array_model.specs.declared.journal.Answer.TheVariants.{Done, Value, Past, Failed, NoSpare}
 use Rattle.array_model.specs.declared.journal.DeclinedKind.{DeclinedKind}
 use Rattle.array_model.specs.declared.journal.DeclinedKind.TheVariants.{Stale, NotSpare, Full, Large, NoVolume, Name, NoDisk, Member, Small, NotFailed, InUse}
-use Rattle.journal_text.specs.Lines.{kind_word, value_word, answer_words, event_words, is_repeated}
-use Rattle.journal_text.specs.Fits.{IsByte, IsSector, FitsAnswer, FitsEvent}
+use Rattle.journal_text.specs.Lines.{kind_word, answer_words, event_words, is_repeated}
+use Rattle.journal_text.specs.Fits.{IsByte, FitsAnswer, FitsEvent}
 
 -- NUMBERS AND VALUES
 
@@ -60,7 +59,7 @@ whole_told : (b : Bool) (bytes : List ℕ) → is_repeated bytes ≡ b → lengt
 whole_told true bytes is len all =
     let front = take 8 bytes in
     repeated _ _ front (length-encode_with lower_digits front ∙ omega (arith, length-take-le 8 bytes (omega arith)))
-      (bytes_told front (All-take IsByte 8 bytes all))
+    (bytes_told front (All-take IsByte 8 bytes all))
     ∙ sym ((bytes_eq-Decides bytes (repeat 64 front)).0 is)
 whole_told false bytes is len all =
     as_it_is _ _ bytes (length-encode_with lower_digits bytes ∙ omega arith) (bytes_told bytes all)

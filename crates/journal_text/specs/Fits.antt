@@ -1,5 +1,5 @@
 -- What an entry of a run can hold: numbers of their types, and sectors of 512 bytes. Source: this project's own.
-use Rattle.std.specs.Prelude.{◌≡◌, ℕ, ◌<◌, ◌^◌, List, length, ⊤}
+use Rattle.std.specs.Prelude.{◌≡◌, ℕ, ◌<◌, ◌^◌, length, ⊤}
 use Rattle.std.specs.List.{All}
 use Rattle.imsm_base.specs.declared.units.Sector.{Sector}
 use Rattle.array_model.specs.declared.journal.Entry.{Entry}

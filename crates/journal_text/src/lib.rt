@@ -4,6 +4,8 @@
 mod law;
 mod line;
 mod pieces;
+#[cfg(test)]
+mod tests;
 mod value;
 mod words;
 

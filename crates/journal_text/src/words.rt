@@ -1,11 +1,11 @@
 //! The words of an entry.
-ghost use Rattle.std.specs.Prelude.{◌≡◌, ◌+◌, ◌≤◌, ◌∷◌, [], ◌++◌, length};
+ghost use Rattle.std.specs.Prelude.{◌≡◌, ◌+◌, ◌<◌, ◌≤◌, ◌∷◌, [], ◌++◌, length};
 ghost use Rattle.std.specs.Fmt.{decimal};
 ghost use Rattle.arrayvec.specs.ArrayVec.{array_vec_len};
 ghost use Rattle.array_model.specs.declared.journal.Event.TheVariants.{Ack, Declined};
 ghost use Rattle.journal_text.specs.Lines.{answer_words, event_words, kind_word, spelled};
 
-use crate::pieces::{Line, push_number, push_word};
+use crate::pieces::{LINE_BYTES, Line, push_number, push_word};
 use crate::value::push_value;
 use array_model::{Answer, DeclinedKind, Event};
 
@@ -30,7 +30,7 @@ fn word_of(kind: DeclinedKind) -> &'static [u8]
 
 /// Appends a word and a number.
 fn push_counted(line: &mut Line, word: &[u8], number: u64)
-    requires { array_vec_len line.old + length word.now + 22 ≤ 1077 }
+    requires { array_vec_len line.old + length word.now + 22 ≤ LINE_BYTES }
     ensures items { line.new.items ≡ line.old.items ++ spelled (word.now ∷ decimal number ∷ []) }
     ensures len { array_vec_len line.new ≤ array_vec_len line.old + length word.now + 22 }
 {
@@ -40,7 +40,7 @@ fn push_counted(line: &mut Line, word: &[u8], number: u64)
 
 /// Appends a word and two numbers.
 fn push_placed(line: &mut Line, word: &[u8], volume: u8, place: u64)
-    requires { array_vec_len line.old + length word.now + 43 ≤ 1077 }
+    requires { array_vec_len line.old + length word.now + 43 ≤ LINE_BYTES }
     ensures items { line.new.items ≡ line.old.items ++ spelled (word.now ∷ decimal volume ∷ decimal place ∷ []) }
     ensures len { array_vec_len line.new ≤ array_vec_len line.old + length word.now + 43 }
 {
@@ -51,14 +51,14 @@ fn push_placed(line: &mut Line, word: &[u8], volume: u8, place: u64)
 fn push_declined(line: &mut Line, update: u64, kind: DeclinedKind)
     requires { array_vec_len line.old ≤ 20 }
     ensures items { line.new.items ≡ line.old.items ++ spelled (event_words (Declined update kind)) }
-    ensures len { array_vec_len line.new ≤ 1076 }
+    ensures len { array_vec_len line.new < LINE_BYTES }
 {
     push_counted(line, b"declined", update);
     push_word(line, word_of(kind));
 }
 
 fn push_answer(line: &mut Line, answer: &Answer)
-    requires { array_vec_len line.old + 1031 ≤ 1077 }
+    requires { array_vec_len line.old + 1031 ≤ LINE_BYTES }
     ensures items { line.new.items ≡ line.old.items ++ spelled (answer_words answer.now) }
     ensures len { array_vec_len line.new ≤ array_vec_len line.old + 1031 }
 {
@@ -77,7 +77,7 @@ fn push_answer(line: &mut Line, answer: &Answer)
 fn push_ack(line: &mut Line, op: u64, answer: &Answer)
     requires { array_vec_len line.old ≤ 20 }
     ensures items { line.new.items ≡ line.old.items ++ spelled (event_words (Ack op answer.now)) }
-    ensures len { array_vec_len line.new ≤ 1076 }
+    ensures len { array_vec_len line.new < LINE_BYTES }
 {
     push_counted(line, b"ack", op);
     push_answer(line, answer);
@@ -87,7 +87,7 @@ fn push_ack(line: &mut Line, op: u64, answer: &Answer)
 pub fn push_event(line: &mut Line, event: &Event)
     requires { array_vec_len line.old ≤ 20 }
     ensures items { line.new.items ≡ line.old.items ++ spelled (event_words event.now) }
-    ensures len { array_vec_len line.new ≤ 1076 }
+    ensures len { array_vec_len line.new < LINE_BYTES }
 {
     match event {
         Event::Begin(generation) => push_counted(line, b"begin", u64::from(*generation)),
