@@ -5,7 +5,7 @@ use Rattle.std.specs.List.{All, slice_split}
 use Rattle.std.specs.Fmt.{decimal}
 use Rattle.std.proofs.lemmas.Fmt.{decimal_nonempty}
 use Rattle.std.proofs.lemmas.List.{length-append}
-use Rattle.std.proofs.lemmas.List.Elements.{All-append, All-head, All-tail}
+use Rattle.std.proofs.lemmas.List.Elements.{All-append, All-cons, All-head, All-nil, All-tail}
 use Rattle.std.proofs.lemmas.List.Splits.{slice_split_at}
 use Rattle.array_model.specs.declared.journal.Entry.{Entry}
 use Rattle.journal_text.specs.Lines.{event_words, spelled, entry_line, journal_text}
@@ -71,3 +71,10 @@ lines_apart (e ∷ a) (f ∷ b) fits fits' same =
 
 pub journal_apart : (a b : List Entry) → All FitsEntry a → All FitsEntry b → journal_text a ≡ journal_text b → a ≡ b
 journal_apart a b fits fits' same = lines_apart a b fits fits' (ap (λ bs. slice_split is_feed bs) same)
+
+pub line_apart : (a b : Entry) → FitsEntry a → FitsEntry b → entry_line a ≡ entry_line b → a ≡ b
+line_apart a b fits fits' same =
+    let one : a ∷ [] ≡ b ∷ [] =
+    journal_apart (a ∷ []) (b ∷ []) (All-cons FitsEntry a [] fits (All-nil FitsEntry)) (All-cons FitsEntry b [] fits' (All-nil FitsEntry))
+    (ap (λ line. line ++ []) same) in
+    ap (λ entries. slice_index_or entries 0 a) one

@@ -7,8 +7,8 @@ use crate::words::push_event;
 use array_model::Entry;
 use arrayvec::ArrayVec;
 
-/// The line of an entry: its stamp and its words, which are decimal but for a sector's, and a line feed. Takes no
-/// memory.
+/// The line of an entry: its stamp, its words and a line feed. Numbers are decimal, the bytes of a sector hexadecimal.
+/// Takes no memory.
 pub fn line_of(entry: &Entry) -> Line
     ensures { result.items ≡ entry_line entry.now }
 {
