@@ -1,0 +1,4 @@
+pub mod Left
+pub mod Members
+pub mod Held
+pub mod Eights

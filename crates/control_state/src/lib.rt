@@ -1,0 +1,13 @@
+//! The control state of a stage, and what a turn does to it: the state of the volume, the clients and their row jobs. No
+//! device stands here, and nothing takes memory.
+#![tactic(auto)]
+
+mod client;
+mod job;
+mod plan;
+mod state;
+
+pub use client::{Client, has_write, is_locked, next_op};
+pub use job::{JobStep, Need, Work};
+pub use plan::Plan;
+pub use state::{Move, State, decide};
