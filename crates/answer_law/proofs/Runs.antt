@@ -1,5 +1,5 @@
 -- The answer law over every honest run.
-use Rattle.std.proofs.Common.{◌≡◌, ℕ, ◌≤◌, ◌&&◌, Bool, true, false, List, [], ◌∷◌, ◌++◌, length, refl, ap, sym, ◌∙◌, subst, arith, ◌⊎◌, inl, inr, Option, Some, None}
+use Rattle.std.proofs.Common.{◌≡◌, ℕ, ◌≤◌, ◌&&◌, Bool, true, false, List, [], ◌∷◌, ◌++◌, length, refl, ap, sym, ◌∙◌, subst, arith, inl, inr, Option, Some, None}
 use Rattle.std.specs.List.{AllByRecursion}
 use Rattle.imsm_base.specs.declared.units.Sector.{Sector}
 use Rattle.device_log.specs.Log.{Call}
@@ -18,15 +18,17 @@ use Rattle.array_model.specs.Content.{is_still_unsure}
 use Rattle.array_model.specs.Candidates.{opened, opened_with, standing}
 use Rattle.array_model.specs.AnswerLaw.{AnswerLaw, ValueAt, ValueOf, IsValue, IsGivenAt, IsGivenOrXor, IsGiven, submitted_from}
 use Rattle.array_model.proofs.Journals.{at_each_more}
+use Rattle.array_model.specs.Renewal.{FitsGeneration}
 use Rattle.stage_machine.specs.Setting.{Setting, Renews}
 use Rattle.stage_machine.specs.Opens.{AsksFirst, StandsOnAll, IsFirstVolume, HoldsContent}
 use Rattle.stage_machine.specs.Jobs.{Client}
-use Rattle.stage_machine.specs.Machine.{Control, World, Action, Reached, opens, goes, Honest, opens_true, goes_true, TrueTurn, happens, clients_of, call_of, call_unless, got_of, turned, turned_unless, stamped, calls_after, log_after}
-use Rattle.stage_machine.proofs.Turns.{Turns, turns_of, nothing, fails, anchors, settles, ends, begins, readies, actives, cleans, rests, pasts, asks_read, asks_write, puts, syncs, gets, acks}
+use Rattle.stage_machine.specs.Machine.{World, Action, Reached, opens, goes, Honest, opens_true, goes_true, TrueTurn, happens, clients_of, call_of, got_of, turned, stamped, calls_after, log_after}
+use Rattle.stage_machine.proofs.Turns.{turns_of}
 use Rattle.stage_machine.proofs.Moments.{counted_reached}
 use Rattle.stage_machine.proofs.Clients.{mine_reached, at_start}
 use Rattle.stage_machine.proofs.Ours.{ours_reached}
 use Rattle.stage_machine.proofs.Finished.{fine_reached}
+use Rattle.stage_machine.proofs.Failed.{goes_or_not, went_on}
 use Rattle.answer_law.proofs.Order.{in_order}
 use Rattle.answer_law.proofs.JobKinds.{fits_reached, whole_each, acks_reached, reads_in_sync}
 use Rattle.answer_law.proofs.Rows.{at_row, given_more}
@@ -82,34 +84,6 @@ pub record Kept (S : Setting) (w : World) : Type 0 where
   pub vals : w.control.failed ≡ None → Vals S w.log w.journal w.control.clients
   pub values : AtEach (λ front e. ValueAt S.start S.asked.ops w.log front e.stamp e.event) w.journal
 
--- a run goes on, or this turn does nothing
-goes_or_not : (S : Setting) (c : Control) (a : Action) → (c.failed ≡ None) ⊎ ((call_of S c a ≡ None) × ((turned S c a).events ≡ []))
-goes_or_not S c a = at c.failed refl
-  where
-    at : (f : Option ℕ) → c.failed ≡ f → (c.failed ≡ None) ⊎ ((call_of S c a ≡ None) × ((turned S c a).events ≡ []))
-    at None is = inl is
-    at (Some d) is = inr (ap (call_unless S c a) is, ap (λ f. (turned_unless S c a f).events) is)
-
--- a run that goes on after a turn went on before it
-went_on : (S : Setting) (c : Control) (got : Sector) {call : Option Call} {es : List Event} {next : Control} → Turns S c got call es next → next.failed ≡ None → c.failed ≡ None
-went_on S c got nothing alive = alive
-went_on S c got (fails d what asked) alive = absurd cc
-went_on S c got (anchors m d ds is) alive = alive
-went_on S c got (settles m d e ds is) alive = alive
-went_on S c got (ends m d is) alive = alive
-went_on S c got (begins d ds is some why) alive = alive
-went_on S c got (readies is s t) alive = alive
-went_on S c got (actives is s t r) alive = alive
-went_on S c got (cleans is s t) alive = alive
-went_on S c got (rests t calm) alive = alive
-went_on S c got (pasts k i rest here none) alive = alive
-went_on S c got (asks_read k i rest place here is w ready) alive = alive
-went_on S c got (asks_write k i rest place here is w ready) alive = alive
-went_on S c got (puts k i left step d ds here need) alive = alive
-went_on S c got (syncs k i left step d ds here need) alive = alive
-went_on S c got (gets k i left step d here need) alive = alive
-went_on S c got (acks k i left step answer here need) alive = alive
-
 and_true : (b : Bool) → (b && true) ≡ false → b ≡ false
 and_true true h = absurd cc
 and_true false h = refl
@@ -140,7 +114,7 @@ module _ (S : Setting) (asks : AsksFirst S) (renews : Renews S) (on : StandsOnAl
       let t = turns_of S c a in
       let below : AllBelow (length w.log) w.journal = subst (λ z. AllBelow z w.journal) counted.calls counted.below in
       record {
-        vals = λ alive. vals_turns S asks volume w.log w.journal c (got_of a) w.calls (mine_reached S w r) (fits_reached S w r) counted.calls counted.below (k.vals (went_on S c (got_of a) t alive)) t gave alive;
+        vals = λ alive. vals_turns S asks volume w.log w.journal c (got_of a) w.calls (mine_reached S w r) (fits_reached S w r) counted.calls counted.below (k.vals (went_on S c (got_of a) t alive).0) t gave alive;
         values = at_each_more (λ front e. ValueAt S.start S.asked.ops (log_after w.log x) front e.stamp e.event) w.journal (stamped (calls_after w.calls x) es)
             (values_before S w.log x [] w.journal below k.values)
             (elim (goes_or_not S c a) [
@@ -153,12 +127,12 @@ module _ (S : Setting) (asks : AsksFirst S) (renews : Renews S) (on : StandsOnAl
   kept_honest w opens_true = record { vals = λ alive. vals_start; values = tt }
   kept_honest w (goes_true {w = v} h a gave) = kept_after v (reached_of S v h) a gave (kept_honest v h)
 
-  pub answers_honest : (w : World) → Honest S w → AnswerLaw S.start S.asked w.log w.journal
-  answers_honest w h =
+  pub answers_honest : (w : World) → FitsGeneration w.control.round.note → Honest S w → AnswerLaw S.start S.asked w.log w.journal
+  answers_honest w fits h =
       let r = reached_of S w h in
       record {
         order = in_order S asks w r;
         values = (kept_honest w h).values;
-        reads = reads_in_sync S on volume w.log w.journal (ours_reached S w r) (fine_reached S renews on volume w r);
+        reads = reads_in_sync S on volume w.log w.journal (ours_reached S w r) (fine_reached S renews on volume w fits r);
         whole = whole_each S w.log [] w.journal (acks_reached S w r);
       }

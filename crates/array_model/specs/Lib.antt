@@ -3,6 +3,7 @@ pub mod Events
 pub mod Moments
 pub mod Placement
 pub mod Blocks
+pub mod Renewal
 pub mod Start
 pub mod Candidates
 pub mod Rounds

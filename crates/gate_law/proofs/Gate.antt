@@ -18,6 +18,7 @@ use Rattle.array_model.specs.Moments.{AllBelow}
 use Rattle.array_model.specs.Candidates.{Disk}
 use Rattle.array_model.specs.WriteGate.{WriteGate, IsDirty, ActiveOver, AckWhileLive, IsLiveFor, DirtyWhileLive}
 use Rattle.array_model.proofs.Journals.{at_each_more, at_each_log, all_first}
+use Rattle.array_model.specs.Renewal.{FitsGeneration}
 use Rattle.stage_machine.specs.Setting.{Setting, Renews, has}
 use Rattle.stage_machine.specs.Opens.{AsksFirst, IsInFirst, StandsOnAll, IsFirstVolume}
 use Rattle.stage_machine.specs.Rounds.{Step, Phase, Rest, Going}
@@ -27,7 +28,7 @@ use Rattle.stage_machine.specs.Machine.{Control, World, Action, Reached, opens, 
 use Rattle.stage_machine.proofs.Turns.{Turns, turns_of, nothing, fails, anchors, settles, ends, begins, readies, actives, cleans, rests, pasts, asks_read, asks_write, puts, syncs, gets, acks}
 use Rattle.stage_machine.proofs.Moments.{always_more, always_none, EachFront, counted_reached}
 use Rattle.stage_machine.proofs.Clients.{Mine, mine_reached}
-use Rattle.stage_machine.proofs.Stands.{Settled, GoodRound, good_reached}
+use Rattle.stage_machine.proofs.Stands.{Settled, GoodRound, good_reached, fitted}
 use Rattle.stage_machine.proofs.Targets.{Stand, StandsIn, stand_turns, stand_reached, disk}
 use Rattle.stage_machine.proofs.Ours.{AreOurs, IsOurs, ours_reached}
 use Rattle.stage_machine.proofs.Finished.{IsFine, fine_reached, finished_good}
@@ -233,15 +234,16 @@ actives_before S log (Some x) journal below h = at_each_log (Over S) log x [] jo
 -- RUNS
 
 module _ (S : Setting) (asks : AsksFirst S) (renews : Renews S) (on : StandsOnAll S) (volume : IsFirstVolume S) where
-  fronts : (w : World) (r : Reached S w) (a : Action) → EachFront (DirtyWhileLive S.start) (happens S w a).log w.journal (stamped (happens S w a).calls (turned S w.control a).events)
-  fronts w r a p q parts =
+  fronts : (w : World) (r : Reached S w) (a : Action) → FitsGeneration (happens S w a).control.round.note → EachFront (DirtyWhileLive S.start) (happens S w a).log w.journal (stamped (happens S w a).calls (turned S w.control a).events)
+  fronts w r a fits p q parts =
+      let before = fitted S w a fits in
       let c = w.control in
       let es = (turned S c a).events in
       let t = turns_of S c a in
       let ours : AreOurs (w.journal ++ p) = all_first (λ (e : Entry). IsOurs e.event) (w.journal ++ p) q (subst AreOurs (ap (λ z. w.journal ++ z) parts ∙ sym (append_assoc w.journal p q)) (ours_reached S (happens S w a) (goes r a))) in
-      let fine = fine_reached S renews on volume (happens S w a) (goes r a) in
+      let fine = fine_reached S renews on volume (happens S w a) fits (goes r a) in
       let still : c.round.phase ≡ Rest → (d : ℕ) → has d S.targets ≡ true → Settled S d c.round.last (disk S (happens S w a).log d) =
-      still_turns S volume w.log c (mine_reached S w r) (good_reached S renews on w r) (stand_reached S renews on volume w r) (got_of a) t in
+      still_turns S volume w.log c (mine_reached S w r) (good_reached S renews on w before r) (stand_reached S renews on volume w before r) (got_of a) t in
       elim (calm_turns S c (got_of a) t) [
         | inl over ↦ dirty_live S on volume (happens S w a).log (w.journal ++ p) c.round.last fine ours (still over.rest) (λ alive. over.dirty)
         | inr calm ↦ λ v alive.
@@ -261,14 +263,15 @@ module _ (S : Setting) (asks : AsksFirst S) (renews : Renews S) (on : StandsOnAl
               subst (IsDirty S.start log journal) zero_is (dirty (subst (λ z. is_live z journal ≡ true) (sym zero_is) alive))
           at false is = absurd (let dead : is_live v journal ≡ false = others_dead v is journal ours in cc (dead, alive))
 
-  pub gate_reached : (w : World) → Reached S w → WriteGate S.start S.asked.ops w.log w.journal
-  gate_reached w opens = record {
+  pub gate_reached : (w : World) → FitsGeneration w.control.round.note → Reached S w → WriteGate S.start S.asked.ops w.log w.journal
+  gate_reached w fits opens = record {
     at_active = tt;
     at_ack = tt;
     always = always_none (DirtyWhileLive S.start) (λ v alive. absurd cc);
   }
-  gate_reached w (goes {w = v} r a) =
-      let old = gate_reached v r in
+  gate_reached w fits (goes {w = v} r a) =
+      let before = fitted S v a fits in
+      let old = gate_reached v before r in
       let c = v.control in
       let n = calls_after v.calls (call_of S c a) in
       let new = stamped n (turned S c a).events in
@@ -278,7 +281,7 @@ module _ (S : Setting) (asks : AsksFirst S) (renews : Renews S) (on : StandsOnAl
       record {
         at_active = at_each_more (λ front e. Over S (take e.stamp (log_after v.log (call_of S c a))) front e) v.journal new
             (actives_before S v.log (call_of S c a) v.journal below old.at_active)
-            (actives_turn S on volume v.log c (got_of a) v.calls v.journal counted.calls (fine_reached S renews on volume v r) (stand_reached S renews on volume v r) t);
+            (actives_turn S on volume v.log c (got_of a) v.calls v.journal counted.calls (fine_reached S renews on volume v before r) (stand_reached S renews on volume v before r) t);
         at_ack = at_each_more (Acks S) v.journal new old.at_ack (acks_turn S asks c (got_of a) n v.journal (live_reached S v r) (writes_reached S v r) t);
-        always = always_more (DirtyWhileLive S.start) v.log v.journal v.calls (call_of S c a) (turned S c a).events counted.calls counted.below old.always (fronts v r a);
+        always = always_more (DirtyWhileLive S.start) v.log v.journal v.calls (call_of S c a) (turned S c a).events counted.calls counted.below old.always (fronts v r a fits);
       }

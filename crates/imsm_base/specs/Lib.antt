@@ -5,3 +5,4 @@ pub mod Volumes
 pub mod FirstForm
 pub mod Parts
 pub mod Vector
+pub mod Edits

@@ -6,3 +6,4 @@ pub mod Found
 pub mod Mirror
 pub mod Laying
 pub mod Exact
+pub mod Kept

@@ -7,18 +7,11 @@ use Rattle.imsm_base.specs.Whole.{IsWholeBlock, IsWhole, IsSize, the_signature}
 use Rattle.imsm_base.specs.Parts.{block_in, room_of, behind_disks, behind_volumes, volumes_in, volumes_room}
 use Rattle.imsm_base.proofs.Joined.{block_in-spelled, room_of-spelled}
 use Rattle.imsm_base.proofs.Apart.{spells_apart}
+use Rattle.imsm_base.proofs.Spliced.{number_at-take}
 use Rattle.imsm_codec.specs.Given.{size_in, given_block, IsGiven}
 use Rattle.imsm_codec.specs.Laid.{IsLaid}
 use Rattle.imsm_codec.specs.Checked.{IsChecked}
 use Rattle.imsm_codec.proofs.Twins.{apart_from_no_twins, no_twins_from_apart}
-
--- a field inside the first n bytes
-pub number_at-take : (k at n : ℕ) (bytes : List ℕ) → at + k ≤ n → number_at k at (take n bytes) ≡ number_at k at bytes
-number_at-take k at n bytes inside =
-    let m : ℕ = n - at in
-    let split : n ≡ at + m = omega arith in
-    let whole : drop at (take n bytes) ≡ take m (drop at bytes) = ap (λ (i : ℕ). drop at (take i bytes)) split ∙ drop-take at m bytes in
-    ap (λ (x : List ℕ). number (take k x)) whole ∙ ap number (take-take k m (drop at bytes) (omega arith))
 
 pub length-given : (bytes : List ℕ) → IsGiven bytes → length (given_block bytes) ≡ size_in bytes
 length-given bytes g = length-take-le (size_in bytes) bytes g.given

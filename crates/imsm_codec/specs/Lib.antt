@@ -5,3 +5,4 @@ pub mod Table
 pub mod Checked
 pub mod Own
 pub mod Faults
+pub mod Buffer

@@ -35,3 +35,10 @@ pub enum MpbFault {
     #[error("a tail of {0} bytes")]
     BadBlocks(u32),
 }
+
+/// Why a block wasn't made.
+#[derive(Clone, Copy, Debug, PartialEq, Eq, Error)]
+pub enum CodecFault {
+    #[error("out of memory")]
+    Memory,
+}

@@ -1,6 +1,7 @@
 //! Metadata blocks: the check of a block's bytes, and the readers of its fields.
 #![tactic(auto)]
 
+mod buffer;
 mod bytes;
 mod checks;
 mod disk;
@@ -19,8 +20,9 @@ mod volume;
 mod whole_disk;
 mod words;
 
+pub use buffer::MpbBuf;
 pub use checks::check;
-pub use fault::MpbFault;
+pub use fault::{CodecFault, MpbFault};
 pub use first_form::is_first_form;
 pub use law::views_are_spelled;
 pub use mpb::MpbRef;

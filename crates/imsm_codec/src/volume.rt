@@ -1,9 +1,9 @@
 //! The readers of volumes (`struct imsm_dev` and `imsm_vol` of super-intel.c).
-ghost use Rattle.std.specs.Prelude.{◌≡◌, ◌+◌, ◌*◌, ◌^◌, ◌<◌, ◌≤◌, length};
+ghost use Rattle.std.specs.Prelude.{◌≡◌, ◌+◌, ◌*◌, ◌^◌, ◌<◌, ◌≤◌, length, drop};
 ghost use Rattle.imsm_base.specs.Fields.{number_at};
 ghost use Rattle.imsm_base.specs.Layout.{volume_count_of, name_of, volume_size_of, policy_of, unit_of, checkpoint_of, migration_state_of, migration_type_of, map_count_of};
 ghost use Rattle.imsm_base.specs.Volumes.{is_dirty};
-ghost use Rattle.imsm_base.specs.Parts.{volume_in, volume_room, block_in};
+ghost use Rattle.imsm_base.specs.Parts.{volume_in, volume_room, volumes_in, volumes_room, behind_disks, block_in};
 ghost use Rattle.imsm_codec.specs.Laid.{IsLaid};
 ghost use Rattle.imsm_codec.specs.Mpb.{block_of, volume_at};
 
@@ -13,9 +13,10 @@ use crate::mpb::MpbRef;
 use imsm_base::{VolNo, get_u32};
 
 /// The bytes from a volume's record on.
-fn volume_from(bytes: &[u8], v: u8) -> &[u8]
+pub(crate) fn volume_from(bytes: &[u8], v: u8) -> &[u8]
     requires laid { IsLaid bytes.now }
     requires below { v < number_at 1 0x39 bytes.now }
+    ensures place { result.now ≡ drop (volumes_room (volumes_in v (behind_disks bytes.now))) (behind_disks bytes.now) }
     ensures volume { volume_in result.now ≡ volume_at v (block_in bytes.now) }
     ensures room { volume_room (volume_in result.now) ≤ length result.now }
 {

@@ -15,14 +15,16 @@ use Rattle.array_model.specs.Script.{is_write_in, kind_at}
 use Rattle.array_model.specs.Form.{IsJournal, NamesOp}
 use Rattle.array_model.specs.Counts.{KeepsVolumeCounts, PendingAfter, PassAfter}
 use Rattle.array_model.proofs.Journals.{at_each_more, count-append, all-append}
+use Rattle.array_model.specs.Renewal.{FitsGeneration}
 use Rattle.stage_machine.specs.Setting.{Setting, Renews}
-use Rattle.stage_machine.specs.Opens.{AsksFirst, IsInFirst}
+use Rattle.stage_machine.specs.Opens.{AsksFirst, IsInFirst, StandsOnAll}
 use Rattle.stage_machine.specs.States.{State, IsReadonly, IsReadAuto, IsClean, IsPending, IsActive, IsIdle, asked_events}
 use Rattle.stage_machine.specs.Jobs.{is_write, is_write_kind}
 use Rattle.stage_machine.specs.Machine.{Control, World, Action, Reached, opens, goes, happens, stamped, calls_after, turned, call_of, got_of}
 use Rattle.stage_machine.proofs.Turns.{Turns, turns_of, nothing, fails, anchors, settles, ends, begins, readies, actives, cleans, rests, pasts, asks_read, asks_write, puts, syncs, gets, acks}
 use Rattle.stage_machine.proofs.Moments.{counted_reached}
 use Rattle.stage_machine.proofs.Clients.{Mine, mine_reached, of_left, of_job, op_below}
+use Rattle.stage_machine.proofs.Stands.{GoodRound, good_reached, fitted}
 use Rattle.stage_machine.proofs.Ours.{AreOurs, IsOurs, ours_turn, count_none, no_pass, no_pass_end, no_fault, no_unblock, no_takeover, no_spare, no_settled, no_posted, no_ready, no_active, no_pending, no_idle, no_clean}
 use Rattle.journal_law.proofs.Tallies.{readonly, pending, awake, resting, going, due, ready_step, active_step, pending_step, idle_step, clean_step, end_step, begin_step}
 
@@ -135,8 +137,8 @@ in_turn_turn S asks c got n journal (acks k i left step answer has need) = (tt, 
 
 -- RUNS
 
-kept_after : (S : Setting) → AsksFirst S → Renews S → (w : World) (a : Action) → Mine S w.control → Kept S w → Kept S (happens S w a)
-kept_after S asks renews w a mine k =
+kept_after : (S : Setting) → AsksFirst S → Renews S → StandsOnAll S → (w : World) (a : Action) → FitsGeneration (happens S w a).control.round.note → Mine S w.control → GoodRound S w.control.round → Kept S w → Kept S (happens S w a)
+kept_after S asks renews on w a fits mine good k =
     let c = w.control in
     let n = calls_after w.calls (call_of S c a) in
     let new = stamped n (turned S c a).events in
@@ -154,11 +156,11 @@ kept_after S asks renews w a mine k =
       idle = let step = idle_step S c (got_of a) n first t in omega (arith, more (is_idle 0), more (is_submit_in S.asked.ops 0), k.idle, step);
       clean = let step = clean_step S c (got_of a) n first t in omega (arith, more (is_clean 0), more (is_idle 0), k.clean, step);
       ends_begun = let step = end_step S c (got_of a) n first t in omega (arith, more is_end, more is_begin, k.ends_begun, step);
-      begins_due = let step = begin_step S c (got_of a) n first renews t in omega (arith, more is_begin, more is_any_pending, more is_any_ready, more is_any_clean, k.begins_due, step);
+      begins_due = let step = begin_step S c (got_of a) n first renews on good t fits in omega (arith, more is_begin, more is_any_pending, more is_any_ready, more is_any_clean, k.begins_due, step);
     }
 
-pub kept_reached : (S : Setting) → AsksFirst S → Renews S → (w : World) → Reached S w → Kept S w
-kept_reached S asks renews w opens = record {
+pub kept_reached : (S : Setting) → AsksFirst S → Renews S → StandsOnAll S → (w : World) → FitsGeneration w.control.round.note → Reached S w → Kept S w
+kept_reached S asks renews on w fits opens = record {
   named = tt;
   ours = tt;
   in_turn = tt;
@@ -171,7 +173,9 @@ kept_reached S asks renews w opens = record {
   ends_begun = omega arith;
   begins_due = omega arith;
 }
-kept_reached S asks renews w (goes {w = v} r a) = kept_after S asks renews v a (mine_reached S v r) (kept_reached S asks renews v r)
+kept_reached S asks renews on w fits (goes {w = v} r a) =
+    let before = fitted S v a fits in
+    kept_after S asks renews on v a fits (mine_reached S v r) (good_reached S renews on v before r) (kept_reached S asks renews on v before r)
 
 -- THE LAW
 
@@ -204,9 +208,9 @@ volume_counts S w k v = at (0 == v) refl
       pass_end = let h = none (is_pass_end v) (no_pass_end v) in omega (arith, h);
     }
 
-pub is_journal : (S : Setting) → AsksFirst S → Renews S → (w : World) → Reached S w → IsJournal S.start S.asked w.calls w.journal
-is_journal S asks renews w r =
-    let k = kept_reached S asks renews w r in
+pub is_journal : (S : Setting) → AsksFirst S → Renews S → StandsOnAll S → (w : World) → FitsGeneration w.control.round.note → Reached S w → IsJournal S.start S.asked w.calls w.journal
+is_journal S asks renews on w fits r =
+    let k = kept_reached S asks renews on w fits r in
     let counted = counted_reached S w r in
     let never : (test : Event → Bool) → ((e : Event) → IsOurs e → test e ≡ false) → count test w.journal ≡ 0 = λ test no_such. count_none test no_such w.journal k.ours in
     record {

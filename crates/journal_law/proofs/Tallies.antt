@@ -6,11 +6,14 @@ use Rattle.array_model.specs.declared.journal.Event.{Event}
 use Rattle.array_model.specs.declared.journal.Event.TheVariants.{Submit}
 use Rattle.array_model.specs.Events.{count, is_begin, is_end, is_ready, is_any_ready, is_active, is_clean, is_any_clean, is_pending, is_any_pending, is_idle, is_submit_in}
 use Rattle.array_model.specs.Script.{is_write_in}
+use Rattle.array_model.specs.Renewal.{FitsGeneration}
 use Rattle.stage_machine.specs.Setting.{Setting, Renews}
+use Rattle.stage_machine.specs.Opens.{StandsOnAll}
 use Rattle.stage_machine.specs.Rounds.{Phase, Rest, Going, Round}
 use Rattle.stage_machine.specs.States.{State, IsReadonly, IsReadAuto, IsClean, IsPending, IsActive, IsIdle, asked_state, asked_events, is_due, next_dirty}
 use Rattle.stage_machine.specs.Jobs.{is_write}
 use Rattle.stage_machine.specs.Machine.{Control, stamped}
+use Rattle.stage_machine.proofs.Stands.{GoodRound, renewed}
 use Rattle.stage_machine.proofs.Turns.{Turns, nothing, fails, anchors, settles, ends, begins, readies, actives, cleans, rests, pasts, asks_read, asks_write, puts, syncs, gets, acks}
 
 abbrev pub one : Bool → ℕ
@@ -270,10 +273,10 @@ module _ (S : Setting) (c : Control) (got : Sector) (n : ℕ) (first : (i : ℕ)
   active_due is s = ap (due_at S IsActive c.round) is ∙ ap (λ b. due_in IsActive b (S.start.words.is_dirty c.round.book 0)) s
 
   -- the round that begins takes in what was due
-  begin_due : Renews S → c.round.phase ≡ Rest → (c.round.started ≡ false) ⊎ (is_due c.state (S.start.words.is_dirty c.round.book 0) ≡ true)
+  begin_due : S.start.words.is_dirty (S.renew c.round.book (c.round.note + 1) (next_dirty c.state)) 0 ≡ next_dirty c.state → c.round.phase ≡ Rest → (c.round.started ≡ false) ⊎ (is_due c.state (S.start.words.is_dirty c.round.book 0) ≡ true)
       → 1 + due_in c.state true (S.start.words.is_dirty (S.renew c.round.book (c.round.note + 1) (next_dirty c.state)) 0) ≤ due S c
-  begin_due renews is why =
-      let after = ap (due_in c.state true) (renews.dirty c.round.book (c.round.note + 1) (next_dirty c.state)) ∙ taken c.state in
+  begin_due dirty is why =
+      let after = ap (due_in c.state true) dirty ∙ taken c.state in
       let before = ap (due_at S c.state c.round) is in
       let now = due_now why in
       omega (arith, after, before, now)
@@ -286,21 +289,21 @@ module _ (S : Setting) (c : Control) (got : Sector) (n : ℕ) (first : (i : ℕ)
           at false = refl
           at true = ap one yes_due
 
-  pub begin_step : Renews S → {call : Option Call} {es : List Event} {next : Control} → Turns S c got call es next
+  pub begin_step : Renews S → StandsOnAll S → GoodRound S c.round → {call : Option Call} {es : List Event} {next : Control} → Turns S c got call es next → FitsGeneration next.round.note
       → tally is_begin n es + due S next ≤ tally is_any_pending n es + tally is_any_ready n es + tally is_any_clean n es + due S c
-  begin_step renews nothing = omega arith
-  begin_step renews (fails d what asked) = omega arith
-  begin_step renews (anchors m d ds is) = let before = ap (due_at S c.state c.round) is in omega (arith, before)
-  begin_step renews (settles m d e ds is) = let before = ap (due_at S c.state c.round) is in omega (arith, before)
-  begin_step renews (ends m d is) = let before = ap (due_at S c.state c.round) is in omega (arith, before)
-  begin_step renews (begins d ds is some why) = let before = begin_due renews is why in omega (arith, before)
-  begin_step renews (readies is s t) = let most = due_most IsReadAuto c.round c.round.phase in omega (arith, most)
-  begin_step renews (actives is s t r) = let after = active_due is s in omega (arith, after)
-  begin_step renews (cleans is s t) = let most = due_most IsClean c.round c.round.phase in omega (arith, most)
-  begin_step renews (rests t calm) = let before = ap (λ z. due_at S z c.round c.round.phase) t in let same = idle_due c.round c.round.phase in omega (arith, before, same)
-  begin_step renews (pasts k i rest has none) = omega arith
-  begin_step renews (asks_read k i rest place has is w live) = omega arith
-  begin_step renews (asks_write k i rest place has is w live) = at c.state c.round.phase (idle_due c.round c.round.phase) (due_most IsPending c.round c.round.phase)
+  begin_step renews on good nothing fits = omega arith
+  begin_step renews on good (fails d what asked) fits = omega arith
+  begin_step renews on good (anchors m d ds is) fits = let before = ap (due_at S c.state c.round) is in omega (arith, before)
+  begin_step renews on good (settles m d e ds is) fits = let before = ap (due_at S c.state c.round) is in omega (arith, before)
+  begin_step renews on good (ends m d is) fits = let before = ap (due_at S c.state c.round) is in omega (arith, before)
+  begin_step renews on good (begins d ds is some why) fits = let it = renewed S renews on c.round d ds (next_dirty c.state) some fits good in let before = begin_due it.dirty is why in omega (arith, before)
+  begin_step renews on good (readies is s t) fits = let most = due_most IsReadAuto c.round c.round.phase in omega (arith, most)
+  begin_step renews on good (actives is s t r) fits = let after = active_due is s in omega (arith, after)
+  begin_step renews on good (cleans is s t) fits = let most = due_most IsClean c.round c.round.phase in omega (arith, most)
+  begin_step renews on good (rests t calm) fits = let before = ap (λ z. due_at S z c.round c.round.phase) t in let same = idle_due c.round c.round.phase in omega (arith, before, same)
+  begin_step renews on good (pasts k i rest has none) fits = omega arith
+  begin_step renews on good (asks_read k i rest place has is w live) fits = omega arith
+  begin_step renews on good (asks_write k i rest place has is w live) fits = at c.state c.round.phase (idle_due c.round c.round.phase) (due_most IsPending c.round c.round.phase)
     where
       at : (state : State) (phase : Phase) → due_at S IsIdle c.round phase ≡ due_at S IsActive c.round phase → due_at S IsPending c.round phase ≤ 1
           → tally is_begin n (Submit i ∷ asked_events state) + due_at S (asked_state state) c.round phase ≤ tally is_any_pending n (Submit i ∷ asked_events state) + tally is_any_ready n (Submit i ∷ asked_events state) + tally is_any_clean n (Submit i ∷ asked_events state) + due_at S state c.round phase
@@ -310,7 +313,7 @@ module _ (S : Setting) (c : Control) (got : Sector) (n : ℕ) (first : (i : ℕ)
       at IsPending phase same most = omega (arith, same, most)
       at IsActive phase same most = omega (arith, same, most)
       at IsIdle phase same most = omega (arith, same, most)
-  begin_step renews (puts k i left step d ds has need) = omega arith
-  begin_step renews (syncs k i left step d ds has need) = omega arith
-  begin_step renews (gets k i left step d has need) = omega arith
-  begin_step renews (acks k i left step answer has need) = omega arith
+  begin_step renews on good (puts k i left step d ds has need) fits = omega arith
+  begin_step renews on good (syncs k i left step d ds has need) fits = omega arith
+  begin_step renews on good (gets k i left step d has need) fits = omega arith
+  begin_step renews on good (acks k i left step answer has need) fits = omega arith

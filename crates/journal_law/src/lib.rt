@@ -2,12 +2,13 @@
 #![tactic(auto)]
 
 ghost use Rattle.array_model.specs.Form.{IsJournal};
+ghost use Rattle.array_model.specs.Renewal.{FitsGeneration};
 ghost use Rattle.stage_machine.specs.Setting.{Setting, Renews};
-ghost use Rattle.stage_machine.specs.Opens.{AsksFirst};
+ghost use Rattle.stage_machine.specs.Opens.{AsksFirst, StandsOnAll};
 ghost use Rattle.stage_machine.specs.Machine.{World, Reached};
 
-/// The journal of every run has the form of a journal: its stamps never fall and aren't above the calls made, it names
-/// operations of the script, and it keeps the counts.
+/// The journal of every run whose generations fit their four bytes has the form of a journal: its stamps never fall and
+/// aren't above the calls made, it names operations of the script, and it keeps the counts.
 pub fn journal_law()
-    ensures { (S : Setting) (w : World) → AsksFirst S → Renews S → Reached S w → IsJournal S.start S.asked w.calls w.journal }
+    ensures { (S : Setting) (w : World) → AsksFirst S → Renews S → StandsOnAll S → FitsGeneration w.control.round.note → Reached S w → IsJournal S.start S.asked w.calls w.journal }
 {}

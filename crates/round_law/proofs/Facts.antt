@@ -1,30 +1,26 @@
 -- What journal and log say of the rounds, kept by each turn.
-use Rattle.std.proofs.Common.{◌≡◌, ℕ, zero, suc, ◌+◌, ◌-◌, ◌<◌, ◌≤◌, ◌==◌, ◌||◌, ◌&&◌, Bool, true, false, if◌then◌else◌, List, [], ◌∷◌, ◌++◌, length, take, drop, refl, ap, sym, ◌∙◌, subst, arith, append_assoc, length-append, ◌⊎◌, inl, inr, Option, Some, None}
+use Rattle.std.proofs.Common.{◌≡◌, ℕ, zero, suc, ◌+◌, ◌≤◌, ◌==◌, ◌&&◌, Bool, true, false, if◌then◌else◌, List, [], ◌∷◌, ◌++◌, length, drop, refl, ap, sym, ◌∙◌, subst, arith, length-append, inl, inr, Option, Some, None}
 use Rattle.std.specs.Prelude.{⊤}
 use Rattle.std.specs.List.{AllByRecursion}
 use Rattle.std.proofs.lemmas.Bool.Decides.{nat_tests}
-use Rattle.std.proofs.lemmas.List.{append-nil, drop-append-le}
+use Rattle.std.proofs.lemmas.List.{drop-append-le}
 use Rattle.imsm_base.specs.declared.units.Sector.{Sector}
 use Rattle.imsm_base.specs.declared.bounds.TheConstants.{METADATA_SECTORS}
 use Rattle.imsm_base.specs.Whole.{anchor_place}
 use Rattle.device_log.specs.Log.{Call, What, Read, Write, Sync}
 use Rattle.device_log.specs.Cells.{resting}
-use Rattle.array_model.specs.declared.journal.Entry.{Entry}
 use Rattle.array_model.specs.declared.journal.Event.{Event}
-use Rattle.array_model.specs.declared.journal.Event.TheVariants.{Submit}
 use Rattle.array_model.specs.Blocks.{Laid, Words, block_of}
 use Rattle.array_model.specs.Candidates.{Disk, In, Part, NoPart, ExtendedPart, AnchorPart, OtherPart, part_of, written, with_block, is_among, standing, counted, noted, disk_at, disk_called, disk_from, writes}
-use Rattle.array_model.specs.Rounds.{IsFinished, IsFinishedBy, IsRound, HasFinished, ended, ended_from, ended_at, begun, begun_from, begun_at}
 use Rattle.array_model.proofs.Journals.{all-append, all_map}
-use Rattle.stage_machine.specs.Setting.{Setting, Renews, has}
-use Rattle.stage_machine.specs.Opens.{StandsOnAll, IsFirstVolume}
-use Rattle.stage_machine.specs.Rounds.{Step, AtAnchor, AtSync, Phase, Rest, Going, Round}
-use Rattle.stage_machine.specs.States.{State, IsReadonly, IsReadAuto, IsClean, IsPending, IsActive, IsIdle, asked_events, next_dirty}
-use Rattle.stage_machine.specs.Jobs.{JobStep, Busy, Need, Reads, Writes, Syncs, the_shape, row_at, value_at}
-use Rattle.stage_machine.specs.Machine.{Control, need_now, World, Action, Reached, opens, goes, happens, call_of, got_of, turned, stamped, calls_after, log_after}
-use Rattle.stage_machine.proofs.Turns.{Turns, turns_of, Has, Asked, anchor, settle, put, sync, get, nothing, fails, anchors, settles, ends, begins, readies, actives, cleans, rests, pasts, asks_read, asks_write, puts, syncs, gets, acks}
+use Rattle.stage_machine.specs.Setting.{Setting, has}
+use Rattle.stage_machine.specs.Opens.{IsFirstVolume}
+use Rattle.stage_machine.specs.Rounds.{AtAnchor, Going}
+use Rattle.stage_machine.specs.Jobs.{JobStep, Busy, Writes, the_shape, row_at, value_at}
+use Rattle.stage_machine.specs.Machine.{Control, need_now, log_after}
+use Rattle.stage_machine.proofs.Turns.{Turns, Has, Asked, anchor, settle, put, sync, get, nothing, fails, anchors, settles, ends, begins, readies, actives, cleans, rests, pasts, asks_read, asks_write, puts, syncs, gets, acks}
 use Rattle.stage_machine.proofs.Clients.{Mine, of_job, NeedIn, need_in}
-use Rattle.stage_machine.proofs.Blocks.{disk-snoc, IsAlone, noted_row, noted_anchor}
+use Rattle.stage_machine.proofs.Blocks.{disk-snoc, noted_row, noted_anchor}
 use Rattle.stage_machine.proofs.Stands.{Good, GoodRound, going_good, RowCall, row_write, row_read, row_sync}
 use Rattle.stage_machine.proofs.Targets.{row_inside}
 use Rattle.stage_machine.proofs.Finished.{LeftIn}

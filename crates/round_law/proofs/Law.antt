@@ -1,5 +1,5 @@
 -- The last finished round of journal and log, over every run.
-use Rattle.std.proofs.Common.{◌≡◌, ℕ, zero, suc, ◌+◌, ◌-◌, ◌<◌, ◌≤◌, ◌==◌, ◌||◌, ◌&&◌, Bool, true, false, if◌then◌else◌, List, [], ◌∷◌, ◌++◌, length, take, drop, refl, ap, sym, ◌∙◌, subst, arith, append_assoc, length-append, ◌⊎◌, inl, inr, Option, Some, None}
+use Rattle.std.proofs.Common.{◌≡◌, ℕ, ◌+◌, ◌<◌, ◌≤◌, ◌==◌, Bool, true, false, List, [], ◌∷◌, ◌++◌, length, drop, refl, ap, sym, ◌∙◌, subst, arith, length-append, ◌⊎◌, inl, inr, Option, Some, None}
 use Rattle.std.specs.Prelude.{⊤}
 use Rattle.std.specs.List.{AllByRecursion}
 use Rattle.std.proofs.lemmas.Bool.Decides.{nat_tests}
@@ -10,19 +10,20 @@ use Rattle.array_model.specs.declared.journal.Entry.{Entry}
 use Rattle.array_model.specs.declared.journal.Event.{Event}
 use Rattle.array_model.specs.declared.journal.Event.TheVariants.{Begin, End, Submit, Ack, Ready, Active, Clean, Idle}
 use Rattle.array_model.specs.declared.journal.Answer.TheVariants.{Past}
-use Rattle.array_model.specs.Blocks.{Laid, Words}
+use Rattle.array_model.specs.Blocks.{Laid}
 use Rattle.array_model.specs.Candidates.{In, writes}
 use Rattle.array_model.specs.Moments.{Always}
-use Rattle.array_model.specs.Rounds.{IsFinished, IsFinishedBy, IsRound, HasFinished, ended, ended_from, ended_at, begun, begun_from, begun_at}
-use Rattle.stage_machine.specs.Setting.{Setting, Renews, has}
+use Rattle.array_model.specs.Rounds.{IsFinished, IsFinishedBy, HasFinished, ended, ended_from, ended_at, begun, begun_from, begun_at}
+use Rattle.array_model.specs.Renewal.{FitsGeneration}
+use Rattle.stage_machine.specs.Setting.{Setting, Renews}
 use Rattle.stage_machine.specs.Opens.{StandsOnAll, IsFirstVolume}
 use Rattle.stage_machine.specs.Rounds.{Step, AtAnchor, AtSync, Phase, Rest, Going, Round}
 use Rattle.stage_machine.specs.States.{State, IsReadonly, IsReadAuto, IsClean, IsPending, IsActive, IsIdle, the_volume, asked_events, next_dirty}
 use Rattle.stage_machine.specs.Machine.{Control, World, Action, Reached, opens, goes, happens, call_of, got_of, turned, stamped, calls_after, log_after}
 use Rattle.stage_machine.proofs.Turns.{Turns, turns_of, nothing, fails, anchors, settles, ends, begins, readies, actives, cleans, rests, pasts, asks_read, asks_write, puts, syncs, gets, acks}
-use Rattle.stage_machine.proofs.Moments.{always_more, always_none, EachFront, Counted, counted_reached}
+use Rattle.stage_machine.proofs.Moments.{always_more, always_none, EachFront, counted_reached}
 use Rattle.stage_machine.proofs.Clients.{Mine, mine_reached}
-use Rattle.stage_machine.proofs.Stands.{Good, GoodRound, going_good, good_reached}
+use Rattle.stage_machine.proofs.Stands.{GoodRound, going_good, good_reached, renewed, fitted}
 use Rattle.stage_machine.proofs.Finished.{LeftIn, left_reached}
 use Rattle.round_law.proofs.Facts.{gen, KindOf, kind_turns, AllMarks, all_marks_map, marks_more, written_marks, writes_grow, writes_anchor, longer}
 
@@ -234,7 +235,7 @@ hush_turns S c got g le (syncs k i left step d ds here need) = inl tt
 hush_turns S c got g le (gets k i left step d here need) = inl tt
 hush_turns S c got g le (acks k i left step answer here need) = inl (record { ends = λ o. refl; begins = λ o n. refl }, tt)
 
-module _ (S : Setting) (renews : Renews S) (volume : IsFirstVolume S) (c : Control) (mine : Mine S c) (good : GoodRound S c.round) (left : LeftIn S c.round.phase) (log : List Call) (journal : List Entry) (n : ℕ) (count : n ≡ length log) (old : Kept S c.round log journal) where
+module _ (S : Setting) (renews : Renews S) (on : StandsOnAll S) (volume : IsFirstVolume S) (c : Control) (mine : Mine S c) (good : GoodRound S c.round) (left : LeftIn S c.round.phase) (log : List Call) (journal : List Entry) (n : ℕ) (count : n ≡ length log) (old : Kept S c.round log journal) where
   same_round : (x : Option Call) (m : ℕ) (es : List Event) → KindOf S c x → ((g : ℕ) → HushList g es) → Kept S c.round (log_after log x) (journal ++ stamped m es)
   same_round x m es kind hush = kept_more S volume c good left log journal old x (stamped m es) kind (λ g. hush_all g m es (hush g))
 
@@ -317,27 +318,27 @@ module _ (S : Setting) (renews : Renews S) (volume : IsFirstVolume S) (c : Contr
         going = (under_more S volume c good left log journal old m AtSync (d ∷ e ∷ ds) (Some x) [] is kind (hush_none c.round.note) going.0, tt);
       }
 
-  pub kept_turns : (got : Sector) {call : Option Call} {es : List Event} {next : Control} → Turns S c got call es next → Kept S next.round (log_after log call) (journal ++ stamped (calls_after n call) es)
-  kept_turns got t = at t (kind_turns S volume c mine got t)
+  pub kept_turns : (got : Sector) {call : Option Call} {es : List Event} {next : Control} → Turns S c got call es next → FitsGeneration next.round.note → Kept S next.round (log_after log call) (journal ++ stamped (calls_after n call) es)
+  kept_turns got t fits = at t fits (kind_turns S volume c mine got t)
     where
-      at : {call : Option Call} {es : List Event} {next : Control} → Turns S c got call es next → KindOf S c call → Kept S next.round (log_after log call) (journal ++ stamped (calls_after n call) es)
-      at nothing kind = same_round None n [] tt (λ g. tt)
-      at (fails d what asked) kind = same_call _ kind
-      at (anchors m d ds is) kind = round_anchors m d ds is _ kind (λ u. writes_anchor S volume d u.stamp 1 m true log u.short (subst (LeftIn S) is left).0 (going_good S c.round m AtAnchor (d ∷ ds) good is))
-      at (settles m d e ds is) kind = round_settles m d e ds is _ kind
-      at (ends m d is) kind = round_ends m d is _ kind
-      at (begins d ds is some why) kind = round_begins _ d ds (renews.generation c.round.book (c.round.note + 1) (next_dirty c.state))
-      at (readies is s t) kind = same_round None n (Ready the_volume ∷ []) tt (quiet (Ready the_volume) (λ g. record { ends = λ o. refl; begins = λ o n. refl }))
-      at (actives is s t r) kind = same_round None n (Active the_volume ∷ []) tt (quiet (Active the_volume) (λ g. record { ends = λ o. refl; begins = λ o n. refl }))
-      at (cleans is s t) kind = same_round None n (Clean the_volume ∷ []) tt (quiet (Clean the_volume) (λ g. record { ends = λ o. refl; begins = λ o n. refl }))
-      at (rests t calm) kind = same_round None n (Idle the_volume ∷ []) tt (quiet (Idle the_volume) (λ g. record { ends = λ o. refl; begins = λ o n. refl }))
-      at (pasts k i rest here none) kind = same_round None n (Submit i ∷ Ack i Past ∷ []) tt (λ g. (record { ends = λ o. refl; begins = λ o n. refl }, (record { ends = λ o. refl; begins = λ o n. refl }, tt)))
-      at (asks_read k i rest place here is w ready) kind = same_round None n (Submit i ∷ []) tt (quiet (Submit i) (λ g. record { ends = λ o. refl; begins = λ o n. refl }))
-      at (asks_write k i rest place here is w ready) kind = same_round None n (Submit i ∷ asked_events c.state) tt (λ g. (record { ends = λ o. refl; begins = λ o n. refl }, hush_asked g c.state))
-      at (puts k i more step d ds here need) kind = same_call _ kind
-      at (syncs k i more step d ds here need) kind = same_call _ kind
-      at (gets k i more step d here need) kind = same_call _ kind
-      at (acks k i more step answer here need) kind = same_round None n (Ack i answer ∷ []) tt (quiet (Ack i answer) (λ g. record { ends = λ o. refl; begins = λ o n. refl }))
+      at : {call : Option Call} {es : List Event} {next : Control} → Turns S c got call es next → FitsGeneration next.round.note → KindOf S c call → Kept S next.round (log_after log call) (journal ++ stamped (calls_after n call) es)
+      at nothing fits kind = same_round None n [] tt (λ g. tt)
+      at (fails d what asked) fits kind = same_call _ kind
+      at (anchors m d ds is) fits kind = round_anchors m d ds is _ kind (λ u. writes_anchor S volume d u.stamp 1 m true log u.short (subst (LeftIn S) is left).0 (going_good S c.round m AtAnchor (d ∷ ds) good is))
+      at (settles m d e ds is) fits kind = round_settles m d e ds is _ kind
+      at (ends m d is) fits kind = round_ends m d is _ kind
+      at (begins d ds is some why) fits kind = round_begins _ d ds (renewed S renews on c.round d ds (next_dirty c.state) some fits good).generation
+      at (readies is s t) fits kind = same_round None n (Ready the_volume ∷ []) tt (quiet (Ready the_volume) (λ g. record { ends = λ o. refl; begins = λ o n. refl }))
+      at (actives is s t r) fits kind = same_round None n (Active the_volume ∷ []) tt (quiet (Active the_volume) (λ g. record { ends = λ o. refl; begins = λ o n. refl }))
+      at (cleans is s t) fits kind = same_round None n (Clean the_volume ∷ []) tt (quiet (Clean the_volume) (λ g. record { ends = λ o. refl; begins = λ o n. refl }))
+      at (rests t calm) fits kind = same_round None n (Idle the_volume ∷ []) tt (quiet (Idle the_volume) (λ g. record { ends = λ o. refl; begins = λ o n. refl }))
+      at (pasts k i rest here none) fits kind = same_round None n (Submit i ∷ Ack i Past ∷ []) tt (λ g. (record { ends = λ o. refl; begins = λ o n. refl }, (record { ends = λ o. refl; begins = λ o n. refl }, tt)))
+      at (asks_read k i rest place here is w ready) fits kind = same_round None n (Submit i ∷ []) tt (quiet (Submit i) (λ g. record { ends = λ o. refl; begins = λ o n. refl }))
+      at (asks_write k i rest place here is w ready) fits kind = same_round None n (Submit i ∷ asked_events c.state) tt (λ g. (record { ends = λ o. refl; begins = λ o n. refl }, hush_asked g c.state))
+      at (puts k i more step d ds here need) fits kind = same_call _ kind
+      at (syncs k i more step d ds here need) fits kind = same_call _ kind
+      at (gets k i more step d here need) fits kind = same_call _ kind
+      at (acks k i more step answer here need) fits kind = same_round None n (Ack i answer ∷ []) tt (quiet (Ack i answer) (λ g. record { ends = λ o. refl; begins = λ o n. refl }))
 
 -- RUNS
 
@@ -347,42 +348,44 @@ prefix_one x (y ∷ []) q is = let head : x ≡ y = cc is in inr (ap (λ z. z �
 prefix_one x (y ∷ z ∷ p) q is = absurd cc
 
 module _ (S : Setting) (renews : Renews S) (on : StandsOnAll S) (volume : IsFirstVolume S) where
-  pub kept_reached : (w : World) → Reached S w → Kept S w.control.round w.log w.journal
-  kept_reached w opens = record {
+  pub kept_reached : (w : World) → FitsGeneration w.control.round.note → Reached S w → Kept S w.control.round w.log w.journal
+  kept_reached w fits opens = record {
     facts = record { before = λ not_yet. (refl, refl); done = λ yet. absurd cc; one = λ yet. tt };
     low = omega arith;
     all = tt;
     going = tt;
   }
-  kept_reached w (goes {w = v} r a) =
-      kept_turns S renews volume v.control (mine_reached S v r) (good_reached S renews on v r) (left_reached S renews on v r) v.log v.journal v.calls (counted_reached S v r).calls (kept_reached v r) (got_of a) (turns_of S v.control a)
+  kept_reached w fits (goes {w = v} r a) =
+      let before = fitted S v a fits in
+      kept_turns S renews on volume v.control (mine_reached S v r) (good_reached S renews on v before r) (left_reached S renews on v before r) v.log v.journal v.calls (counted_reached S v r).calls (kept_reached v before r) (got_of a) (turns_of S v.control a) fits
 
-  fronts : (w : World) (r : Reached S w) (a : Action) → EachFront (HasFinished S.start) (happens S w a).log w.journal (stamped (happens S w a).calls (turned S w.control a).events)
-  fronts w r a p q parts =
+  fronts : (w : World) (r : Reached S w) (a : Action) → FitsGeneration (happens S w a).control.round.note → EachFront (HasFinished S.start) (happens S w a).log w.journal (stamped (happens S w a).calls (turned S w.control a).events)
+  fronts w r a fits p q parts =
+      let before = fitted S w a fits in
       let c = w.control in
-      let old = kept_reached w r in
+      let old = kept_reached w before r in
       let x = call_of S c a in
       let t = turns_of S c a in
       let kind = kind_turns S volume c (mine_reached S w r) (got_of a) t in
       let hushed : Hush (gen S c.round.last) p → HasFinished S.start (log_after w.log x) (w.journal ++ p) = λ hush.
       has_finished S volume c.round.last c.round.started (log_after w.log x) (w.journal ++ p)
-      (facts_more S volume c (good_reached S renews on w r) (left_reached S renews on w r) w.log w.journal old x p kind hush) in
+      (facts_more S volume c (good_reached S renews on w before r) (left_reached S renews on w before r) w.log w.journal old x p kind hush) in
       elim (hush_turns S c (got_of a) (gen S c.round.last) old.low t) [
         | inl hush ↦ hushed (hush_front (gen S c.round.last) (happens S w a).calls (turned S c a).events p q hush parts)
         | inr one ↦ elim (prefix_one (record { stamp = (happens S w a).calls; event = one.0 }) p q (sym (ap (stamped (happens S w a).calls) one.1) ∙ parts)) [
           | inl none ↦ hushed (subst (Hush (gen S c.round.last)) (sym none) (hush_none (gen S c.round.last)))
           | inr whole ↦
-              let new = kept_reached (happens S w a) (goes r a) in
+              let new = kept_reached (happens S w a) fits (goes r a) in
               subst (λ z. HasFinished S.start (log_after w.log x) (w.journal ++ z)) (ap (stamped (happens S w a).calls) one.1 ∙ sym whole)
               (has_finished S volume (happens S w a).control.round.last (happens S w a).control.round.started (log_after w.log x) (happens S w a).journal new.facts)
         ]
       ]
 
-  pub round_reached : (w : World) → Reached S w → Always (HasFinished S.start) w.log w.journal
-  round_reached w opens = always_none (HasFinished S.start) (has_finished S volume S.start.newest false [] [] (kept_reached w opens).facts)
-  round_reached w (goes {w = v} r a) =
+  pub round_reached : (w : World) → FitsGeneration w.control.round.note → Reached S w → Always (HasFinished S.start) w.log w.journal
+  round_reached w fits opens = always_none (HasFinished S.start) (has_finished S volume S.start.newest false [] [] (kept_reached w fits opens).facts)
+  round_reached w fits (goes {w = v} r a) =
       let counted = counted_reached S v r in
-      always_more (HasFinished S.start) v.log v.journal v.calls (call_of S v.control a) (turned S v.control a).events counted.calls counted.below (round_reached v r) (fronts v r a)
+      always_more (HasFinished S.start) v.log v.journal v.calls (call_of S v.control a) (turned S v.control a).events counted.calls counted.below (round_reached v (fitted S v a fits) r) (fronts v r a fits)
 
-  pub last_reached : (w : World) → Reached S w → IsFinished S.start w.log w.journal w.control.round.last
-  last_reached w r = is_finished S volume w.control.round.last w.control.round.started w.log w.journal (kept_reached w r).facts
+  pub last_reached : (w : World) → FitsGeneration w.control.round.note → Reached S w → IsFinished S.start w.log w.journal w.control.round.last
+  last_reached w fits r = is_finished S volume w.control.round.last w.control.round.started w.log w.journal (kept_reached w fits r).facts

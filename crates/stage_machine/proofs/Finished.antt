@@ -10,9 +10,10 @@ use Rattle.array_model.specs.declared.journal.Entry.{Entry}
 use Rattle.array_model.specs.declared.journal.Event.{Event}
 use Rattle.array_model.specs.Blocks.{Laid}
 use Rattle.array_model.specs.Candidates.{Disk, In, is_among, standing, counted, disk_at, disk_called, disk_from, writes}
-use Rattle.array_model.specs.Rounds.{IsFinished, IsFinishedBy, ended}
+use Rattle.array_model.specs.Rounds.{IsFinished, IsFinishedBy, IsRound, ended}
 use Rattle.array_model.proofs.Journals.{all-append}
-use Rattle.stage_machine.specs.Setting.{Setting, Renews, SaysSame, has}
+use Rattle.array_model.specs.Renewal.{FitsGeneration, SaysSame}
+use Rattle.stage_machine.specs.Setting.{Setting, Renews, has}
 use Rattle.stage_machine.specs.Opens.{StandsOnAll, IsFirstVolume}
 use Rattle.stage_machine.specs.Rounds.{AtAnchor, Phase, Rest, Going}
 use Rattle.stage_machine.specs.Jobs.{JobStep, Busy, Reads, Writes, the_shape, row_at, value_at}
@@ -20,7 +21,7 @@ use Rattle.stage_machine.specs.Machine.{Control, need_now, World, Reached, opens
 use Rattle.stage_machine.proofs.Turns.{Turns, turns_of, Has, Asked, anchor, settle, put, sync, get, nothing, fails, anchors, settles, ends, begins, readies, actives, cleans, rests, pasts, asks_read, asks_write, puts, syncs, gets, acks}
 use Rattle.stage_machine.proofs.Clients.{Mine, mine_reached, of_job, NeedIn, need_in, row_below, AllIn, all_in_self}
 use Rattle.stage_machine.proofs.Blocks.{IsRow, noted_row, noted_anchor}
-use Rattle.stage_machine.proofs.Stands.{Good, GoodRound, going_good, good_reached}
+use Rattle.stage_machine.proofs.Stands.{Good, GoodRound, going_good, good_reached, fitted}
 use Rattle.stage_machine.proofs.Targets.{row_inside}
 
 -- CALLS
@@ -98,14 +99,17 @@ module _ (S : Setting) (volume : IsFirstVolume S) (c : Control) (mine : Mine S c
   fine_turns log got (gets k i more step d has need) h = all-append (IsFine S) log _ h (fine_get k i more step d has need, tt)
   fine_turns log got (acks k i more step answer has need) h = h
 
-pub left_reached : (S : Setting) → Renews S → StandsOnAll S → (w : World) → Reached S w → LeftIn S w.control.round.phase
-left_reached S renews on w opens = tt
-left_reached S renews on w (goes {w = v} r a) = left_turns S v.control (got_of a) (turns_of S v.control a) (good_reached S renews on v r) (left_reached S renews on v r)
+pub left_reached : (S : Setting) → Renews S → StandsOnAll S → (w : World) → FitsGeneration w.control.round.note → Reached S w → LeftIn S w.control.round.phase
+left_reached S renews on w fits opens = tt
+left_reached S renews on w fits (goes {w = v} r a) =
+    let before = fitted S v a fits in
+    left_turns S v.control (got_of a) (turns_of S v.control a) (good_reached S renews on v before r) (left_reached S renews on v before r)
 
-pub fine_reached : (S : Setting) → Renews S → StandsOnAll S → IsFirstVolume S → (w : World) → Reached S w → AllByRecursion (IsFine S) w.log
-fine_reached S renews on volume w opens = tt
-fine_reached S renews on volume w (goes {w = v} r a) =
-    fine_turns S volume v.control (mine_reached S v r) (good_reached S renews on v r) (left_reached S renews on v r) v.log (got_of a) (turns_of S v.control a) (fine_reached S renews on volume v r)
+pub fine_reached : (S : Setting) → Renews S → StandsOnAll S → IsFirstVolume S → (w : World) → FitsGeneration w.control.round.note → Reached S w → AllByRecursion (IsFine S) w.log
+fine_reached S renews on volume w fits opens = tt
+fine_reached S renews on volume w fits (goes {w = v} r a) =
+    let before = fitted S v a fits in
+    fine_turns S volume v.control (mine_reached S v r) (good_reached S renews on v before r) (left_reached S renews on v before r) v.log (got_of a) (turns_of S v.control a) (fine_reached S renews on volume v before r)
 
 -- BLOCKS
 
@@ -152,12 +156,16 @@ module _ (S : Setting) (volume : IsFirstVolume S) where
       at true is = let here : x.disk ≡ d = grind (arith, nat_tests, is) in known_at d k x.what x.went (subst (λ z. Fine S z x.what) here fine.0) h
       at false is = h
 
-  -- the block of the last finished round is a good one
+  -- a block that the log writes for a round is a good one
+  pub round_good : (log : List Call) (stamp g : ℕ) (m : Laid) → AllByRecursion (IsFine S) log → IsRound S.start log stamp g m → SaysSame S.start.words m S.start.newest
+  round_good log stamp g m fine round =
+      (in_all (Good S) m (writes S.start.words S.start.disks round.disk (drop stamp log)) round.written
+      (known_from round.disk _ (drop stamp log) (all_drop S stamp log fine) tt)).same
+
+  -- so is the block of the last finished round
   pub finished_good : StandsOnAll S → (log : List Call) (journal : List Entry) (m : Laid) → AllByRecursion (IsFine S) log → IsFinished S.start log journal m → SaysSame S.start.words m S.start.newest
   finished_good on log journal m fine finished = at (ended journal) finished
     where
       at : (g : Option ℕ) → IsFinishedBy S.start log journal m g → SaysSame S.start.words m S.start.newest
       at None is = subst (λ z. SaysSame S.start.words z S.start.newest) (sym is) (record { container = refl; expects = λ serial. refl; is_supported = λ v. refl; pass = λ v. refl; slots = λ v. refl })
-      at (Some g) (stamp, begun, round) =
-          (in_all (Good S) m (writes S.start.words S.start.disks round.disk (drop stamp log)) round.written
-          (known_from round.disk _ (drop stamp log) (all_drop S stamp log fine) tt)).same
+      at (Some g) (stamp, begun, round) = round_good log stamp g m fine round

@@ -6,3 +6,4 @@ pub mod Stands
 pub mod Targets
 pub mod Ours
 pub mod Finished
+pub mod Failed

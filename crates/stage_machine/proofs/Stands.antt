@@ -1,7 +1,8 @@
 -- What each target holds of metadata, by the place of the round.
-use Rattle.std.proofs.Common.{◌≡◌, ℕ, ◌+◌, ◌≤◌, ◌&&◌, Bool, true, false, nat_lt, List, [], ◌∷◌, length, refl, ap, sym, ◌∙◌, subst, arith, ◌⊎◌, inl, inr, Option}
+use Rattle.std.proofs.Common.{◌≡◌, ℕ, ◌+◌, ◌≤◌, ◌==◌, ◌&&◌, if◌then◌else◌, Bool, true, false, nat_lt, List, [], ◌∷◌, length, refl, ap, sym, ◌∙◌, subst, arith, ◌⊎◌, inl, inr, Option}
 use Rattle.std.specs.Prelude.{⊤}
 use Rattle.std.specs.List.{AllByRecursion}
+use Rattle.std.proofs.lemmas.Bool.Decides.{nat_tests}
 use Rattle.imsm_base.specs.declared.units.Sector.{Sector}
 use Rattle.imsm_base.specs.declared.bounds.TheConstants.{METADATA_SECTORS}
 use Rattle.imsm_base.specs.Whole.{anchor_place}
@@ -9,12 +10,17 @@ use Rattle.device_log.specs.Log.{Call, What, Read, Write, Sync}
 use Rattle.device_log.specs.Cells.{Cell, brought, cell_synced}
 use Rattle.array_model.specs.Blocks.{Laid, Words}
 use Rattle.array_model.specs.Candidates.{Disk, In, is_among, standing, counted, disk_at}
-use Rattle.stage_machine.specs.Setting.{Setting, Renews, SaysSame, has}
+use Rattle.array_model.specs.Renewal.{FitsGeneration, SaysSame, IsRenewable, IsRenewed}
+use Rattle.stage_machine.specs.Setting.{Setting, Renews, has}
 use Rattle.stage_machine.specs.Opens.{StandsOnAll}
+use Rattle.stage_machine.specs.States.{next_dirty}
 use Rattle.stage_machine.specs.Rounds.{Step, AtAnchor, AtSync, Phase, Rest, Going, Round}
-use Rattle.stage_machine.specs.Machine.{Control, World, Reached, opens, goes, got_of}
+use Rattle.stage_machine.specs.Machine.{Control, World, Action, Reached, opens, goes, happens, got_of}
 use Rattle.stage_machine.proofs.Turns.{Turns, turns_of, nothing, fails, anchors, settles, ends, begins, readies, actives, cleans, rests, pasts, asks_read, asks_write, puts, syncs, gets, acks}
 use Rattle.stage_machine.proofs.Blocks.{in_among, IsAlone, standing_is, IsRow, noted_row, noted_anchor, cell_row, cell_anchor}
+
+has_first : (d : ℕ) (ds : List ℕ) → has d (d ∷ ds) ≡ true
+has_first d ds = let here : (d == d) ≡ true = grind (arith, nat_tests) in rw here refl
 
 -- GOOD BLOCKS: of one sector, with the members of the newest at opening, and whole on each target
 
@@ -36,39 +42,56 @@ pub record GoodRound (S : Setting) (r : Round) : Type 0 where
 pub going_good : (S : Setting) (r : Round) (m : Laid) (step : Step) (left : List ℕ) → GoodRound S r → r.phase ≡ Going m step left → Good S m
 going_good S r m step left good is = subst (GoodPhase S) is good.phase
 
-good_renew : (S : Setting) → Renews S → (m : Laid) (g : ℕ) (y : Bool) → Good S m → Good S (S.renew m g y)
-good_renew S renews m g y good =
-    let same = renews.same m g y in
-    record {
-      alone = record { extra = renews.alone m g y; short = renews.short m g y };
-      same = record {
-        container = same.container ∙ good.same.container;
-        expects = λ serial. same.expects serial ∙ good.same.expects serial;
-        is_supported = λ v. same.is_supported v ∙ good.same.is_supported v;
-        pass = λ v. same.pass v ∙ good.same.pass v;
-        slots = λ v. same.slots v ∙ good.same.slots v;
-      };
-      whole = λ d target. renews.whole m g y (S.start.disks.serial d) (S.start.disks.sectors d) (good.whole d target);
-    }
+-- it may be renewed, where there is a target
+good_renewable : (S : Setting) → StandsOnAll S → (m : Laid) (d : ℕ) → has d S.targets ≡ true → Good S m → IsRenewable S.start.words m
+good_renewable S on m d target good = record {
+  alone = good.alone.extra;
+  short = good.alone.short;
+  container = ap (λ n. if n == 0 then false else true) good.same.container ∙ on.container;
+  serial = S.start.disks.serial d;
+  sectors = S.start.disks.sectors d;
+  whole = good.whole d target;
+}
 
-good_turns : (S : Setting) → Renews S → (c : Control) (got : Sector) {call : Option Call} {es : _} {next : Control} → Turns S c got call es next → GoodRound S c.round → GoodRound S next.round
-good_turns S renews c got nothing good = good
-good_turns S renews c got (fails d what asked) good = good
-good_turns S renews c got (anchors m d ds is) good = record { book = good.book; last = good.last; phase = going_good S c.round m AtAnchor (d ∷ ds) good is; working = good.working }
-good_turns S renews c got (settles m d e ds is) good = record { book = good.book; last = good.last; phase = going_good S c.round m AtSync (d ∷ e ∷ ds) good is; working = good.working }
-good_turns S renews c got (ends m d is) good = let it = going_good S c.round m AtSync (d ∷ []) good is in record { book = it; last = it; phase = tt; working = good.working }
-good_turns S renews c got (begins d ds is some why) good = record { book = good.book; last = good.last; phase = good_renew S renews c.round.book (c.round.note + 1) _ good.book; working = good.working }
-good_turns S renews c got (readies is s t) good = good
-good_turns S renews c got (actives is s t r) good = good
-good_turns S renews c got (cleans is s t) good = good
-good_turns S renews c got (rests t calm) good = good
-good_turns S renews c got (pasts k i rest has none) good = good
-good_turns S renews c got (asks_read k i rest place has is w live) good = good
-good_turns S renews c got (asks_write k i rest place has is w live) good = good
-good_turns S renews c got (puts k i left step d ds has need) good = good
-good_turns S renews c got (syncs k i left step d ds has need) good = good
-good_turns S renews c got (gets k i left step d has need) good = good
-good_turns S renews c got (acks k i left step answer has need) good = good
+good_renewed : (S : Setting) (m n : Laid) (g : ℕ) (y : Bool) → IsRenewed S.start.words m g y n → Good S m → Good S n
+good_renewed S m n g y it good = record {
+  alone = record { extra = it.alone; short = it.short };
+  same = record {
+    container = it.same.container ∙ good.same.container;
+    expects = λ serial. it.same.expects serial ∙ good.same.expects serial;
+    is_supported = λ v. it.same.is_supported v ∙ good.same.is_supported v;
+    pass = λ v. it.same.pass v ∙ good.same.pass v;
+    slots = λ v. it.same.slots v ∙ good.same.slots v;
+  };
+  whole = λ d target. it.whole (S.start.disks.serial d) (S.start.disks.sectors d) (good.whole d target);
+}
+
+-- the block of a round that begins is the book's, renewed
+pub renewed : (S : Setting) → Renews S → StandsOnAll S → (r : Round) (d : ℕ) (ds : List ℕ) (y : Bool) → r.working ≡ d ∷ ds → FitsGeneration (r.note + 1) → GoodRound S r
+    → IsRenewed S.start.words r.book (r.note + 1) y (S.renew r.book (r.note + 1) y)
+renewed S renews on r d ds y some fits good =
+    renews r.book (r.note + 1) y (good_renewable S on r.book d (subst (λ ts. has d ts ≡ true) (sym some ∙ good.working) (has_first d ds)) good.book) fits
+
+good_turns : (S : Setting) → Renews S → StandsOnAll S → (c : Control) (got : Sector) {call : Option Call} {es : _} {next : Control} → Turns S c got call es next → FitsGeneration next.round.note → GoodRound S c.round → GoodRound S next.round
+good_turns S renews on c got nothing fits good = good
+good_turns S renews on c got (fails d what asked) fits good = good
+good_turns S renews on c got (anchors m d ds is) fits good = record { book = good.book; last = good.last; phase = going_good S c.round m AtAnchor (d ∷ ds) good is; working = good.working }
+good_turns S renews on c got (settles m d e ds is) fits good = record { book = good.book; last = good.last; phase = going_good S c.round m AtSync (d ∷ e ∷ ds) good is; working = good.working }
+good_turns S renews on c got (ends m d is) fits good = let it = going_good S c.round m AtSync (d ∷ []) good is in record { book = it; last = it; phase = tt; working = good.working }
+good_turns S renews on c got (begins d ds is some why) fits good =
+    let it = renewed S renews on c.round d ds (next_dirty c.state) some fits good in
+    record { book = good.book; last = good.last; phase = good_renewed S c.round.book _ (c.round.note + 1) (next_dirty c.state) it good.book; working = good.working }
+good_turns S renews on c got (readies is s t) fits good = good
+good_turns S renews on c got (actives is s t r) fits good = good
+good_turns S renews on c got (cleans is s t) fits good = good
+good_turns S renews on c got (rests t calm) fits good = good
+good_turns S renews on c got (pasts k i rest has none) fits good = good
+good_turns S renews on c got (asks_read k i rest place has is w live) fits good = good
+good_turns S renews on c got (asks_write k i rest place has is w live) fits good = good
+good_turns S renews on c got (puts k i left step d ds has need) fits good = good
+good_turns S renews on c got (syncs k i left step d ds has need) fits good = good
+good_turns S renews on c got (gets k i left step d has need) fits good = good
+good_turns S renews on c got (acks k i left step answer has need) fits good = good
 
 good_newest : (S : Setting) → StandsOnAll S → Good S S.start.newest
 good_newest S on = record {
@@ -77,9 +100,34 @@ good_newest S on = record {
   whole = on.whole;
 }
 
-pub good_reached : (S : Setting) → Renews S → StandsOnAll S → (w : World) → Reached S w → GoodRound S w.control.round
-good_reached S renews on w opens = let it = good_newest S on in record { book = it; last = it; phase = tt; working = refl }
-good_reached S renews on w (goes {w = v} r a) = good_turns S renews v.control (got_of a) (turns_of S v.control a) (good_reached S renews on v r)
+-- GENERATIONS: none falls, so where a run's highest fits, each earlier one does
+
+note_rises : (S : Setting) (c : Control) (got : Sector) {call : Option Call} {es : _} {next : Control} → Turns S c got call es next → c.round.note ≤ next.round.note
+note_rises S c got nothing = omega arith
+note_rises S c got (fails d what asked) = omega arith
+note_rises S c got (anchors m d ds is) = omega arith
+note_rises S c got (settles m d e ds is) = omega arith
+note_rises S c got (ends m d is) = omega arith
+note_rises S c got (begins d ds is some why) = omega arith
+note_rises S c got (readies is s t) = omega arith
+note_rises S c got (actives is s t r) = omega arith
+note_rises S c got (cleans is s t) = omega arith
+note_rises S c got (rests t calm) = omega arith
+note_rises S c got (pasts k i rest has none) = omega arith
+note_rises S c got (asks_read k i rest place has is w live) = omega arith
+note_rises S c got (asks_write k i rest place has is w live) = omega arith
+note_rises S c got (puts k i left step d ds has need) = omega arith
+note_rises S c got (syncs k i left step d ds has need) = omega arith
+note_rises S c got (gets k i left step d has need) = omega arith
+note_rises S c got (acks k i left step answer has need) = omega arith
+
+pub fitted : (S : Setting) (w : World) (a : Action) → FitsGeneration (happens S w a).control.round.note → FitsGeneration w.control.round.note
+fitted S w a fits = let rises = note_rises S w.control (got_of a) (turns_of S w.control a) in omega (arith, fits, rises)
+
+pub good_reached : (S : Setting) → Renews S → StandsOnAll S → (w : World) → FitsGeneration w.control.round.note → Reached S w → GoodRound S w.control.round
+good_reached S renews on w fits opens = let it = good_newest S on in record { book = it; last = it; phase = tt; working = refl }
+good_reached S renews on w fits (goes {w = v} r a) =
+    good_turns S renews on v.control (got_of a) (turns_of S v.control a) fits (good_reached S renews on v (fitted S v a fits) r)
 
 -- ONE DISK
 

@@ -10,6 +10,7 @@ use Rattle.device_log.specs.Cells.{resting}
 use Rattle.array_model.specs.declared.journal.Event.{Event}
 use Rattle.array_model.specs.Blocks.{Laid}
 use Rattle.array_model.specs.Candidates.{Disk, disk_after, opened, opened_with}
+use Rattle.array_model.specs.Renewal.{FitsGeneration}
 use Rattle.stage_machine.specs.Setting.{Setting, Renews, has}
 use Rattle.stage_machine.specs.Opens.{StandsOnAll, IsFirstVolume}
 use Rattle.stage_machine.specs.Rounds.{Step, AtAnchor, AtSync, Phase, Rest, Going, Round}
@@ -18,7 +19,7 @@ use Rattle.stage_machine.specs.Machine.{Control, need_now, World, Reached, opens
 use Rattle.stage_machine.proofs.Turns.{Turns, turns_of, Has, Asked, anchor, settle, put, sync, get, nothing, fails, anchors, settles, ends, begins, readies, actives, cleans, rests, pasts, asks_read, asks_write, puts, syncs, gets, acks}
 use Rattle.stage_machine.proofs.Clients.{Mine, mine_reached, of_job, NeedIn, need_in, row_below}
 use Rattle.stage_machine.proofs.Blocks.{disk-snoc, IsAlone, IsRow}
-use Rattle.stage_machine.proofs.Stands.{GoodRound, going_good, good_reached, Settled, StandsAs, Mixed, RowCall, row_write, row_read, row_sync, after, mixed_of, mixed_last, synced_settled, settled_row, mixed_row, row_stands, mixed_anchor, anchored}
+use Rattle.stage_machine.proofs.Stands.{GoodRound, going_good, good_reached, fitted, Settled, StandsAs, Mixed, RowCall, row_write, row_read, row_sync, after, mixed_of, mixed_last, synced_settled, settled_row, mixed_row, row_stands, mixed_anchor, anchored}
 
 abbrev pub IsFirst : ℕ → List ℕ → Type 0
 IsFirst d [] = ⊥
@@ -199,7 +200,8 @@ opened_settled S on d target = subst (Settled S d S.start.newest) (sym known) (r
     known = ap (λ m. opened_with S.start.words (λ p. resting (S.start.disks.opening d p)) m (S.start.words.is_whole (S.start.disks.serial d) (S.start.disks.sectors d) m)) (on.stands d target)
         ∙ ap (opened_with S.start.words (λ p. resting (S.start.disks.opening d p)) S.start.newest) (on.whole d target)
 
-pub stand_reached : (S : Setting) → Renews S → StandsOnAll S → IsFirstVolume S → (w : World) → Reached S w → Stand S w.log w.control.round
-stand_reached S renews on volume w opens = opened_settled S on
-stand_reached S renews on volume w (goes {w = v} r a) =
-    stand_turns S volume v.log v.control (mine_reached S v r) (good_reached S renews on v r) (stand_reached S renews on volume v r) (got_of a) (turns_of S v.control a)
+pub stand_reached : (S : Setting) → Renews S → StandsOnAll S → IsFirstVolume S → (w : World) → FitsGeneration w.control.round.note → Reached S w → Stand S w.log w.control.round
+stand_reached S renews on volume w fits opens = opened_settled S on
+stand_reached S renews on volume w fits (goes {w = v} r a) =
+    let before = fitted S v a fits in
+    stand_turns S volume v.log v.control (mine_reached S v r) (good_reached S renews on v before r) (stand_reached S renews on volume v before r) (got_of a) (turns_of S v.control a)

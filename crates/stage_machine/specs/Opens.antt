@@ -7,6 +7,7 @@ use Rattle.imsm_base.specs.declared.units.Level.TheVariants.{One}
 use Rattle.device_log.specs.Cells.{resting}
 use Rattle.array_model.specs.declared.script.OpKind.{OpKind}
 use Rattle.array_model.specs.declared.script.OpKind.TheVariants.{Write as OpWrite, Read as OpRead, Whole as OpWhole}
+use Rattle.array_model.specs.Blocks.{is_container}
 use Rattle.array_model.specs.Candidates.{standing}
 use Rattle.array_model.specs.FailureLaw.{HasInSlot}
 use Rattle.stage_machine.specs.Setting.{Setting, has}
@@ -23,8 +24,9 @@ pub record AsksFirst (S : Setting) : Type 0 where
   pub clients : AllByRecursion (λ op. op.client < 16) S.asked.ops
   pub volumes : AllByRecursion (λ op. IsInFirst op.kind) S.asked.ops
 
--- the newest block stands on each disk that it expects, in one sector, and is whole there
+-- the newest block is a container's and stands on each disk that it expects, in one sector, and is whole there
 pub record StandsOnAll (S : Setting) : Type 0 where
+  pub container : is_container S.start.words S.start.newest ≡ true
   pub alone : S.start.words.extra S.start.newest.anchor ≡ 0
   pub short : S.start.newest.extended ≡ []
   pub expected : (d : ℕ) → S.start.words.expects S.start.newest (S.start.disks.serial d) ≡ has d S.targets

@@ -2,7 +2,7 @@ use Rattle.round_law.proofs.Law.{round_reached, last_reached}
 use Rattle.round_law.proofs.round_law.Goals as goal
 
 pub returns-clause-one : goal.returns-clause-one
-returns-clause-one c S w renews on volume r = round_reached S renews on volume w r
+returns-clause-one c S w renews on volume fits r = round_reached S renews on volume w fits r
 
 pub returns-clause-kept : goal.returns-clause-kept
-returns-clause-kept c S w renews on volume r = last_reached S renews on volume w r
+returns-clause-kept c S w renews on volume fits r = last_reached S renews on volume w fits r

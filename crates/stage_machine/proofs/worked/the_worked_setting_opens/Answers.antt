@@ -1,4 +1,4 @@
-use Rattle.std.proofs.Common.{◌≡◌, ℕ, zero, suc, ◌+◌, ◌≤◌, ◌==◌, ◌||◌, Bool, true, false, [], ◌∷◌, refl, arith}
+use Rattle.std.proofs.Common.{◌≡◌, ℕ, zero, suc, ◌==◌, Bool, true, false, [], ◌∷◌, refl, arith}
 use Rattle.std.proofs.lemmas.Bool.Decides.{nat_tests}
 use Rattle.array_model.specs.Small.{small_start, small_slot}
 use Rattle.stage_machine.specs.Setting.{has}
@@ -17,3 +17,20 @@ member (suc (suc d)) is = absurd (
 
 pub returns-clause-volume : goal.returns-clause-volume
 returns-clause-volume c = record { level = refl; rows = omega arith; started = refl; members = member; room = λ d target. omega arith }
+
+pub returns-clause-renews : goal.returns-clause-renews
+returns-clause-renews c m g y old fits = record {
+  alone = refl;
+  short = refl;
+  generation = refl;
+  dirty = at y;
+  same = record { container = refl; expects = λ serial. refl; is_supported = λ v. refl; pass = λ v. refl; slots = λ v. refl };
+  whole = λ serial sectors is. refl;
+}
+  where
+    at : (b : Bool) → small_setting.start.words.is_dirty (small_setting.renew m g b) 0 ≡ b
+    at true = refl
+    at false = refl
+
+pub returns-clause-renewable : goal.returns-clause-renewable
+returns-clause-renewable c = record { alone = refl; short = refl; container = refl; serial = 65 ∷ []; sectors = 4096; whole = refl }

@@ -1,0 +1,21 @@
+-- A metadata block that is owned: its bytes, and how many the memory that it has takes. Source: this project's own.
+use Rattle.std.specs.Prelude.{ℕ, ◌≤◌, List, length}
+use Rattle.imsm_base.specs.declared.bounds.TheConstants.{MAX_BLOCK_BYTES}
+use Rattle.imsm_base.specs.Layout.{Block}
+use Rattle.imsm_base.specs.Parts.{block_in}
+use Rattle.imsm_codec.specs.Laid.{IsLaid}
+
+pub record Buffer : Type 0 where
+  pub bytes : List ℕ
+  pub room : ℕ
+
+-- the one block that the bytes spell
+abbrev pub parts_of : Buffer → Block
+parts_of buffer = block_in buffer.bytes
+
+-- bytes are a block's, in a room that is taken from memory
+pub record IsKept (bytes : List ℕ) (room capacity : ℕ) : Type 0 where
+  pub laid : IsLaid bytes
+  pub fits : length bytes ≤ room
+  pub most : room ≤ MAX_BLOCK_BYTES
+  pub taken : room ≤ capacity
