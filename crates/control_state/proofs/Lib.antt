@@ -2,3 +2,4 @@ pub mod Left
 pub mod Members
 pub mod Held
 pub mod Eights
+pub mod Books

@@ -1,1 +1,3 @@
+pub mod Book
 pub mod Seen
+pub mod Rounds

@@ -9,7 +9,8 @@ use Rattle.array_model.specs.declared.journal.Event.{Event}
 use Rattle.array_model.specs.declared.journal.Event.TheVariants.{Pending as Pended}
 use Rattle.array_model.specs.Script.{is_of_client}
 use Rattle.array_model.specs.Placement.{Shape}
-use Rattle.array_model.specs.Blocks.{Words}
+use Rattle.block_words.specs.Reading.{block_words}
+use Rattle.block_words.specs.Renewed.{renewed}
 use Rattle.stage_machine.specs.Setting.{Setting}
 use Rattle.stage_machine.specs.States as machine
 use Rattle.stage_machine.specs.Jobs as jobs
@@ -33,36 +34,15 @@ numbers disks = map (λ (d : DiskNo). d.0) disks
 abbrev pub shape_of : Plan → Shape
 shape_of p = record { level = Some One; members = 2; size = p.size; strip = 0; pba = p.pba; rows = p.size }
 
--- words that say nothing but how the one volume lies: row jobs ask for no other
-abbrev pub plain_words : Shape → Words
-plain_words shape = record {
-  extra = λ s. 0;
-  generation = λ s. 0;
-  is_whole = λ serial n m. false;
-  volumes = λ m. 1;
-  family = λ m. 0;
-  has_record = λ m serial. false;
-  expects = λ m serial. false;
-  has_room = λ m. false;
-  is_supported = λ m v. false;
-  is_dirty = λ m v. false;
-  is_unfinished = λ m v. false;
-  can_run = λ m v. false;
-  pass = λ m v. None;
-  unit = λ m v. 0;
-  pass_start = λ m v. 0;
-  shape = λ m v. shape;
-  slots = λ m v. [];
-}
-
 abbrev pub no_sector : Sector
 no_sector = record { 0 = [] }
 
--- what row jobs need of what the machine takes as given
-abbrev pub jobs_setting : Plan → Setting
-jobs_setting p = record {
+-- What the turns need of what the machine takes as given: the words of a block's bytes, of which rows ask how the volume
+-- lies alone; the edit of a round; the operations; and the disks.
+abbrev pub plan_setting : Plan → Setting
+plan_setting p = record {
   start = record {
-    words = plain_words (shape_of p);
+    words = record block_words { shape = λ m v. shape_of p };
     disks = record { count = 0; serial = λ d. []; sectors = λ d. 0; opening = λ d q. no_sector };
     newest = record { anchor = no_sector; extended = [] };
     is_started = λ v. false;
@@ -74,7 +54,7 @@ jobs_setting p = record {
   asked = record { ops = p.ops.items; asks = [] };
   targets = numbers p.targets.items;
   members = numbers p.members.items;
-  renew = λ m g y. m;
+  renew = renewed;
 }
 
 -- THE STATE OF THE VOLUME
@@ -133,4 +113,4 @@ clients_of p clients = map (λ (c : Client). client_of p c) clients
 
 -- a client at a place other than one holds a row
 abbrev pub locks : Plan → ℕ → ℕ → ℕ → Client → Bool
-locks p row but at c = not (at == but) && jobs.holds (jobs_setting p) row (job_of (numbers p.members.items) c.work)
+locks p row but at c = not (at == but) && jobs.holds (plan_setting p) row (job_of (numbers p.members.items) c.work)

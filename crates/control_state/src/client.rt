@@ -1,7 +1,7 @@
 //! The clients of a run.
 ghost use Rattle.std.specs.Prelude.{◌≡◌, ◌+◌, ◌<◌, ◌∷◌, [], length, IfSome, IfNone};
 ghost use Rattle.stage_machine.specs.Jobs as machine;
-ghost use Rattle.control_state.specs.Seen.{jobs_setting, left_from, clients_of, locks};
+ghost use Rattle.control_state.specs.Seen.{plan_setting, left_from, clients_of, locks};
 
 use crate::job::Work;
 use crate::plan::Plan;
@@ -37,7 +37,7 @@ fn locks(plan: &Plan, row: u64, but: u8, at: usize, client: &Client) -> bool
 
 /// Whether a client other than one holds a row.
 pub fn is_locked(plan: &Plan, clients: &[Client], row: u64, but: u8) -> bool
-    ensures { result ≡ machine.is_locked (jobs_setting plan.now) row but (clients_of plan.now clients.now) }
+    ensures { result ≡ machine.is_locked (plan_setting plan.now) row but (clients_of plan.now clients.now) }
 {
     for j in 0..clients.len() {
         if locks(plan, row, but, j, &clients[j]) {
@@ -49,7 +49,7 @@ pub fn is_locked(plan: &Plan, clients: &[Client], row: u64, but: u8) -> bool
 
 /// Whether a client has a write without an answer.
 pub fn has_write(plan: &Plan, clients: &[Client]) -> bool
-    ensures { result ≡ machine.any_writing (jobs_setting plan.now) (clients_of plan.now clients.now) }
+    ensures { result ≡ machine.any_writing (plan_setting plan.now) (clients_of plan.now clients.now) }
 {
     for client in clients {
         if plan.is_writing(&client.work) {

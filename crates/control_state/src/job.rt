@@ -2,7 +2,7 @@
 ghost use Rattle.std.specs.Prelude.{◌≡◌, ◌≤◌, length, drop, slice_get};
 ghost use Rattle.array_model.specs.Script.{kind_at};
 ghost use Rattle.stage_machine.specs.Jobs as machine;
-ghost use Rattle.control_state.specs.Seen.{numbers, jobs_setting, job_of, step_of, need_of};
+ghost use Rattle.control_state.specs.Seen.{numbers, plan_setting, job_of, step_of, need_of};
 
 use crate::plan::Plan;
 use array_model::{Answer, OpKind};
@@ -74,7 +74,7 @@ fn sync_need(members: &[DiskNo], at: u8) -> Need
 impl Plan {
     /// What the job of an operation needs where no call was made yet.
     fn first_need(&self, op: u64) -> Need
-        ensures { need_of (numbers self.now.members.items) result ≡ machine.first_need (jobs_setting self.now) (kind_at self.now.ops.items op) }
+        ensures { need_of (numbers self.now.members.items) result ≡ machine.first_need (plan_setting self.now) (kind_at self.now.ops.items op) }
     {
         let members = self.members.as_slice();
         match self.kind(op) {
@@ -86,7 +86,7 @@ impl Plan {
 
     /// What a job needs where nothing holds it.
     pub fn need(&self, work: Work) -> Need
-        ensures { need_of (numbers self.now.members.items) result ≡ machine.need_of (jobs_setting self.now) work.op (step_of (numbers self.now.members.items) work.step) }
+        ensures { need_of (numbers self.now.members.items) result ≡ machine.need_of (plan_setting self.now) work.op (step_of (numbers self.now.members.items) work.step) }
     {
         let members = self.members.as_slice();
         match work.step {
@@ -100,7 +100,7 @@ impl Plan {
 
     /// Where a job stands once the members before a place were written.
     pub fn after_write(&self, rest: u8) -> JobStep
-        ensures { step_of (numbers self.now.members.items) result ≡ machine.after_write (jobs_setting self.now) (drop rest (numbers self.now.members.items)) }
+        ensures { step_of (numbers self.now.members.items) result ≡ machine.after_write (plan_setting self.now) (drop rest (numbers self.now.members.items)) }
     {
         if (rest as usize) < self.members.len() {
             JobStep::Writing(rest)
@@ -122,7 +122,7 @@ impl Plan {
 
     /// Whether a job holds a row: it does from its first call on.
     pub fn holds(&self, row: u64, work: &Option<Work>) -> bool
-        ensures { result ≡ machine.holds (jobs_setting self.now) row (job_of (numbers self.now.members.items) work.now) }
+        ensures { result ≡ machine.holds (plan_setting self.now) row (job_of (numbers self.now.members.items) work.now) }
     {
         match work {
             None => false,
@@ -132,7 +132,7 @@ impl Plan {
 
     /// Whether a job is a write without an answer.
     pub fn is_writing(&self, work: &Option<Work>) -> bool
-        ensures { result ≡ machine.is_writing (jobs_setting self.now) (job_of (numbers self.now.members.items) work.now) }
+        ensures { result ≡ machine.is_writing (plan_setting self.now) (job_of (numbers self.now.members.items) work.now) }
     {
         match work {
             None => false,

@@ -2,12 +2,16 @@
 //! device stands here, and nothing takes memory.
 #![tactic(auto)]
 
+mod book;
 mod client;
 mod job;
 mod plan;
+mod round;
 mod state;
 
+pub use book::Book;
 pub use client::{Client, has_write, is_locked, next_op};
 pub use job::{JobStep, Need, Work};
 pub use plan::Plan;
+pub use round::{Ask, Phase, Round, Step};
 pub use state::{Move, State, decide};

@@ -3,7 +3,7 @@ ghost use Rattle.std.specs.Prelude.{◌≡◌, ◌+◌, ◌≤◌, ◌++◌, len
 ghost use Rattle.byteorder.specs.Endian.{big_bytes};
 ghost use Rattle.array_model.specs.Script.{kind_at, sector_of};
 ghost use Rattle.stage_machine.specs.Jobs.{row_at, is_write, value_at, value_in, sector_in};
-ghost use Rattle.control_state.specs.Seen.{jobs_setting};
+ghost use Rattle.control_state.specs.Seen.{plan_setting};
 
 use array_model::{Op, OpKind};
 use arrayvec::ArrayVec;
@@ -71,14 +71,14 @@ impl Plan {
 
     /// Whether an operation is a write.
     pub fn is_write(&self, op: u64) -> bool
-        ensures { result ≡ is_write (jobs_setting self.now) op }
+        ensures { result ≡ is_write (plan_setting self.now) op }
     {
         matches!(self.kind(op), Some(OpKind::Write(_, _, _)))
     }
 
     /// The row that an operation reads or writes, and 0 where it names none.
     pub fn row(&self, op: u64) -> u64
-        ensures { result ≡ row_at (jobs_setting self.now) op }
+        ensures { result ≡ row_at (plan_setting self.now) op }
     {
         let sector = sector_named(self.kind(op));
         if sector < self.size { sector } else { 0 }
@@ -86,7 +86,7 @@ impl Plan {
 
     /// The sector that an operation writes.
     pub fn value(&self, op: u64) -> Sector
-        ensures { result ≡ value_at (jobs_setting self.now) op }
+        ensures { result ≡ value_at (plan_setting self.now) op }
     {
         sector_with(value_named(self.kind(op)))
     }
