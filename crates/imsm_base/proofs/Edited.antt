@@ -1,5 +1,5 @@
 -- The edits of a block's bytes make the bytes of the block that is edited.
-use Rattle.std.proofs.Common.{◌≡◌, ◌≢◌, ℕ, zero, suc, ◌+◌, ◌*◌, ◌≤◌, ◌<◌, ◌==◌, if◌then◌else◌, Bool, List, [], ◌∷◌, ◌++◌, length, take, drop, get_or, set, refl, sym, ◌∙◌, ap, arith}
+use Rattle.std.proofs.Common.{◌≡◌, ◌≢◌, ℕ, zero, suc, ◌+◌, ◌*◌, ◌≤◌, ◌<◌, ◌==◌, if◌then◌else◌, Bool, List, [], ◌∷◌, ◌++◌, length, take, drop, get_or, set, refl, sym, ◌∙◌, ap, subst, arith}
 use Rattle.std.specs.List.{concat, flat_map, AllByRecursion}
 use Rattle.std.proofs.lemmas.List.{append_assoc, drop-drop, length-map, get_or-set_other}
 use Rattle.byteorder.specs.Endian.{little_bytes}
@@ -8,7 +8,7 @@ use Rattle.imsm_base.specs.Layout.{Block, Volume, HasLengths, IsVolume, IsBlock,
 use Rattle.imsm_base.specs.Parts.{volume_in, volumes_in, volume_room, volumes_room, behind_disks, block_in, room_of}
 use Rattle.imsm_base.specs.Edits.{with_generation, dirty_place, with_lowest_bit, with_dirty, with_header_field, block_with_generation, volume_with_dirty, volumes_with_dirty, block_with_dirty}
 use Rattle.imsm_base.proofs.Cut.{total, length-part}
-use Rattle.imsm_base.proofs.Joined.{block_in-spelled, length-volume_bytes, length-disks_bytes}
+use Rattle.imsm_base.proofs.Joined.{block_in-spelled, length-volume_bytes, length-disks_bytes, room_of-spelled}
 use Rattle.imsm_base.proofs.Apart.{length-disks, length-volumes}
 use Rattle.imsm_base.proofs.At.{place_of, volume_in-block, volumes_fit}
 use Rattle.imsm_base.proofs.Spliced.{spliced, length-spliced, spliced-front, spliced-behind, spliced-field, set-lengths}
@@ -212,3 +212,10 @@ length-with_generation bytes g long = length-spliced 44 (little_bytes 4 g) bytes
 pub length-with_dirty : (bytes : List ℕ) (k : ℕ) (on : Bool) → dirty_place bytes k + 1 ≤ length bytes → length (with_dirty bytes k on) ≡ length bytes
 length-with_dirty bytes k on inside =
     length-spliced (dirty_place bytes k) (little_bytes 1 (with_lowest_bit (number_at 1 (dirty_place bytes k) bytes) on)) bytes inside
+
+pub dirty-length : (bytes : List ℕ) (b : Block) (k : ℕ) (on : Bool) → Spells bytes b → k < length b.volumes → length (with_dirty bytes k on) ≡ length bytes
+dirty-length bytes b k on s below =
+    let same : block_in bytes ≡ b = block_in-spelled bytes b s in
+    let count : number_at 1 57 bytes ≡ length b.volumes = sym (length-volumes bytes) ∙ ap (λ (x : Block). length x.volumes) same in
+    let room = room_of-spelled bytes (block_in bytes) (subst (Spells bytes) (sym same) s) in
+    length-with_dirty bytes k on (dirty-inside bytes k room (omega arith))

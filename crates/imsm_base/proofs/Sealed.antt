@@ -7,14 +7,12 @@ use Rattle.byteorder.specs.Numbers.{little_number-reads_back}
 use Rattle.imsm_base.specs.declared.bounds.TheConstants.{MAX_BLOCK_BYTES}
 use Rattle.imsm_base.specs.Fields.{number, number_at}
 use Rattle.imsm_base.specs.Layout.{Block, Spells, header_lengths, signature_of, size_of, checksum_of, disk_count_of, volume_count_of}
-use Rattle.imsm_base.specs.Parts.{block_in}
 use Rattle.imsm_base.specs.Whole.{IsWholeBlock, IsSize, AreCounts, AreApart, IsAcceptedTail, the_signature, expected_serials, words_sum, block_sum}
 use Rattle.imsm_base.specs.Edits.{with_generation, with_dirty, sized, sealed, with_header_field, block_with_generation, block_with_dirty, block_with_size, block_sealed}
 use Rattle.imsm_base.proofs.Cut.{total}
-use Rattle.imsm_base.proofs.Joined.{block_in-spelled, room_of-spelled}
-use Rattle.imsm_base.proofs.Apart.{length-volumes}
+use Rattle.imsm_base.proofs.Joined.{room_of-spelled}
 use Rattle.imsm_base.proofs.Spliced.{spliced, length-spliced, number_at-before, number_at-behind}
-use Rattle.imsm_base.proofs.Edited.{IsFree, fields_of, other_field, header-spells, generation_is_free, size_is_free, checksum_is_free, dirty-spells, dirty-inside, length-with_dirty}
+use Rattle.imsm_base.proofs.Edited.{IsFree, fields_of, other_field, header-spells, generation_is_free, size_is_free, checksum_is_free, dirty-spells, dirty-length}
 
 -- a number of four bytes is read back
 pub number-four : (n : ℕ) → n < 2 ^ 32 → number (little_bytes 4 n) ≡ n
@@ -90,18 +88,14 @@ pub generation-unsealed : (bytes : List ℕ) (b : Block) (g : ℕ) → IsUnseale
 generation-unsealed bytes b g u = header-unsealed bytes b 5 (little_bytes 4 g) (λ e. omega arith) (generation_is_free g) u
 
 pub dirty-unsealed : (bytes : List ℕ) (b : Block) (k : ℕ) (on : Bool) → k < length b.volumes → IsUnsealed bytes b → IsUnsealed (with_dirty bytes k on) (block_with_dirty b k on)
-dirty-unsealed bytes b k on below u =
-    let same : block_in bytes ≡ b = block_in-spelled bytes b u.spells in
-    let count : number_at 1 57 bytes ≡ length b.volumes = sym (length-volumes bytes) ∙ ap (λ (x : Block). length x.volumes) same in
-    let room = room_of-spelled bytes (block_in bytes) (subst (Spells bytes) (sym same) u.spells) in
-    record {
-      signed = u.signed;
-      size = subst IsSize (sym (length-with_dirty bytes k on (dirty-inside bytes k room (omega arith)))) u.size;
-      counted = u.counted;
-      apart = u.apart;
-      spells = dirty-spells bytes b k on u.spells below;
-      tail = u.tail;
-    }
+dirty-unsealed bytes b k on below u = record {
+  signed = u.signed;
+  size = subst IsSize (sym (dirty-length bytes b k on u.spells below)) u.size;
+  counted = u.counted;
+  apart = u.apart;
+  spells = dirty-spells bytes b k on u.spells below;
+  tail = u.tail;
+}
 
 -- THE SEAL
 

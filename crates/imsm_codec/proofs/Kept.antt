@@ -8,7 +8,7 @@ use Rattle.std.proofs.lemmas.List.{with_items_is, append-nil, take_all, drop_all
 use Rattle.byteorder.specs.Endian.{little_bytes}
 use Rattle.imsm_base.specs.declared.bounds.TheConstants.{MAX_BLOCK_BYTES}
 use Rattle.imsm_base.specs.Fields.{number_at, with_number_at}
-use Rattle.imsm_base.specs.Layout.{Block, Spells, size_of, checksum_of, volume_count_of, header_lengths}
+use Rattle.imsm_base.specs.Layout.{Block, Spells, size_of, volume_count_of}
 use Rattle.imsm_base.specs.Parts.{block_in}
 use Rattle.imsm_base.specs.Whole.{block_sum}
 use Rattle.imsm_base.specs.Edits.{first_sector, with_generation, dirty_place, with_dirty, sized, sealed, block_with_generation, block_with_dirty, block_sealed}

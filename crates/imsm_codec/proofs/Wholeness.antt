@@ -1,7 +1,7 @@
 -- Bytes begin with a whole block exactly where each step of the check finds them right.
-use Rattle.std.proofs.Common.{◌≡◌, ℕ, ◌+◌, ◌*◌, ◌-◌, ◌≤◌, min, List, length, take, drop, sym, ◌∙◌, ap, subst, arith}
-use Rattle.std.proofs.lemmas.List.{length-take, length-drop, take-take, drop-take, length-take-le}
-use Rattle.imsm_base.specs.Fields.{number, number_at}
+use Rattle.std.proofs.Common.{◌≡◌, ℕ, ◌+◌, ◌*◌, ◌-◌, ◌≤◌, min, List, length, take, sym, ◌∙◌, subst, arith}
+use Rattle.std.proofs.lemmas.List.{length-take, length-drop, take-take, length-take-le}
+use Rattle.imsm_base.specs.Fields.{number_at}
 use Rattle.imsm_base.specs.Layout.{Block}
 use Rattle.imsm_base.specs.Whole.{IsWholeBlock, IsWhole, IsSize, the_signature}
 use Rattle.imsm_base.specs.Parts.{block_in, room_of, behind_disks, behind_volumes, volumes_in, volumes_room}

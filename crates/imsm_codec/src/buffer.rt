@@ -6,7 +6,7 @@ ghost use Rattle.imsm_base.specs.Layout.{volume_count_of, size_of, checksum_of};
 ghost use Rattle.imsm_base.specs.Whole.{block_sum};
 ghost use Rattle.imsm_base.specs.Edits.{with_generation, dirty_place, with_dirty, sized, sealed, first_sector, block_with_generation, block_with_dirty, block_sealed};
 ghost use Rattle.imsm_codec.specs.Laid.{IsLaid};
-ghost use Rattle.imsm_codec.specs.Mpb.{block_bytes};
+ghost use Rattle.imsm_codec.specs.Mpb.{block_bytes, block_of};
 ghost use Rattle.imsm_codec.specs.Buffer.{parts_of};
 
 use crate::bytes::{get_u8, put_u8};
@@ -65,7 +65,8 @@ impl MpbBuf {
 
     /// The layout over the bytes.
     pub fn parts(&self) -> MpbRef<'_>
-        ensures { block_bytes result ≡ self.now.bytes }
+        ensures bytes { block_bytes result ≡ self.now.bytes }
+        ensures parts { block_of result ≡ parts_of self.now }
     {
         MpbRef { bytes: &self.bytes }
     }

@@ -1,4 +1,4 @@
-use Rattle.std.proofs.Common.{◌≡◌, List, length, ℕ, refl, sym, ◌∙◌, ap, subst}
+use Rattle.std.proofs.Common.{refl, ◌∙◌, ap}
 use Rattle.imsm_codec.specs.Buffer.{Buffer}
 use Rattle.imsm_base.specs.Edits.{first_sector}
 use Rattle.imsm_codec.proofs.Kept.{anchor-made}

@@ -1,9 +1,9 @@
-use Rattle.std.proofs.Common.{◌≡◌, ◌<◌, ◌≤◌, ◌^◌, List, length, ℕ, sym, ◌∙◌, ap, subst, arith}
+use Rattle.std.proofs.Common.{◌≡◌, ◌<◌, ◌^◌, List, length, ℕ, sym, ◌∙◌, ap, subst, arith}
 use Rattle.imsm_base.specs.Fields.{with_number_at}
 use Rattle.imsm_base.specs.Layout.{size_of, checksum_of}
 use Rattle.imsm_base.specs.Parts.{block_in}
 use Rattle.imsm_base.specs.Whole.{block_sum}
-use Rattle.imsm_base.specs.Edits.{sized, sealed, block_sealed}
+use Rattle.imsm_base.specs.Edits.{sized, block_sealed}
 use Rattle.imsm_codec.specs.Buffer.{Buffer, IsKept, parts_of}
 use Rattle.imsm_codec.proofs.Kept.{sealed-kept, sealed-block, sealed-parts, seal-made}
 use Rattle.imsm_codec.proofs.buffer.MpbBuf.seal.Goals as goal

@@ -1,0 +1,20 @@
+//! The words of metadata blocks, read from their bytes, and the edit of a round on those bytes.
+#![tactic(auto)]
+
+ghost use Rattle.std.specs.Prelude.{ℕ, Bool};
+ghost use Rattle.array_model.specs.Blocks.{Laid};
+ghost use Rattle.array_model.specs.Meaning.{ReadsBlocks};
+ghost use Rattle.array_model.specs.Renewal.{FitsGeneration, IsRenewable, IsRenewed};
+ghost use Rattle.block_words.specs.Reading.{block_words};
+ghost use Rattle.block_words.specs.Renewed.{renewed};
+
+/// The words that are read from a block's bytes are those of imsm_base.
+pub fn words_are_those_of_the_bytes()
+    ensures { ReadsBlocks block_words }
+{}
+
+/// The edit of a round makes of a container's block of one sector, whole on some disk, a block with that generation and
+/// with volume 0 dirty or clean, which says all else as before and is whole wherever the old one was.
+pub fn edit_of_a_round()
+    ensures { (m : Laid) (g : ℕ) (y : Bool) → IsRenewable block_words m → FitsGeneration g → IsRenewed block_words m g y (renewed m g y) }
+{}
