@@ -1,17 +1,16 @@
 -- Blocks that rounds are edited from: they stand whole in their first sector, and stay so under the edit of a round.
-use Rattle.std.proofs.Common.{◌≡◌, ℕ, ◌+◌, ◌<◌, ◌≤◌, ◌≢◌, Bool, false, List, [], ◌∷◌, ◌++◌, length, take, drop, replicate, refl, ap, sym, subst, ◌∙◌, arith}
+use Rattle.std.proofs.Common.{◌≡◌, ℕ, ◌+◌, ◌<◌, ◌≤◌, Bool, false, List, [], ◌++◌, length, take, replicate, refl, ap, sym, subst, ◌∙◌, arith}
 use Rattle.std.proofs.lemmas.List.{append-nil, take-take, take_at}
 use Rattle.std.proofs.lemmas.Option.{slice_get-get_or}
-use Rattle.std.specs.Prelude.{Option, Some, Result, Ok, Err, Unit, IsOk, OnOk, slice_get}
+use Rattle.std.specs.Prelude.{Option, Some, Result, Ok, Err, IsOk, OnOk, slice_get}
 use Rattle.std.specs.Option.{option_map_or}
 use Rattle.byteorder.specs.Endian.{little_bytes}
-use Rattle.imsm_base.specs.declared.bounds.TheConstants.{MAX_BLOCK_BYTES}
 use Rattle.imsm_base.specs.Fields.{number_at}
 use Rattle.imsm_base.specs.Volumes.{is_dirty}
 use Rattle.imsm_base.specs.Layout.{Block, Volume, size_of, generation_of, volume_count_of}
 use Rattle.imsm_base.specs.Parts.{block_in}
 use Rattle.imsm_base.specs.Whole.{block_sum}
-use Rattle.imsm_base.specs.Edits.{first_sector, with_generation, with_dirty, sized, sealed, block_with_generation, block_with_dirty, block_with_size, block_sealed}
+use Rattle.imsm_base.specs.Edits.{first_sector, with_generation, with_dirty, sized, sealed, block_with_generation, block_with_size, block_sealed}
 use Rattle.imsm_base.proofs.Spliced.{number_at-take, number_at-front}
 use Rattle.imsm_base.proofs.Edited.{other_field}
 use Rattle.imsm_codec.specs.Laid.{IsLaid}
@@ -19,7 +18,7 @@ use Rattle.imsm_codec.specs.Buffer.{Buffer, IsKept}
 use Rattle.imsm_codec.specs.Mpb.{volume_at, blank_volume}
 use Rattle.imsm_codec.specs.declared.fault.NoRoom.{NoRoom}
 use Rattle.imsm_base.proofs.Apart.{length-volumes}
-use Rattle.imsm_codec.proofs.Kept.{volumes-counted, length-generation, generation-kept, generation-block, length-dirty, dirty-kept, dirty-block, length-seal, sealed-kept, sealed-block, sealed-parts}
+use Rattle.imsm_codec.proofs.Kept.{volumes-counted, generation-kept, generation-block, dirty-kept, dirty-block, sealed-kept, sealed-block, sealed-parts}
 use Rattle.array_model.specs.Meaning.{bytes_of_laid, of_volume}
 use Rattle.block_words.specs.Reading.{block_words}
 use Rattle.block_words.specs.Renewed.{renewed, renewed_bytes}
@@ -118,7 +117,7 @@ dirty_laid bytes book =
 
 pub copied : (r : Result Unit NoRoom) (old new : Buffer) (from : List ℕ) → OnOk r (new ≡ record old { bytes = from }) → IsOk r → new ≡ record old { bytes = from }
 copied (Ok x) old new from made ok = made
-copied (Err e) old new from made ok = absurd ok
+copied (Err e) old new from made ok = absurd (cc ok)
 
 pub generation_made : (a b : Buffer) (from : List ℕ) (g : ℕ) → a.bytes ≡ from → b ≡ record a { bytes = with_generation a.bytes g } → b.bytes ≡ with_generation from g
 generation_made a b from g is made = ap (λ (s : Buffer). s.bytes) made ∙ ap (λ (xs : List ℕ). with_generation xs g) is

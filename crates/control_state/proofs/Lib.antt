@@ -3,3 +3,4 @@ pub mod Members
 pub mod Held
 pub mod Eights
 pub mod Books
+pub mod Rounded

@@ -20,7 +20,7 @@ drop_past [] (suc n) is = refl
 drop_past (x ∷ xs) zero is = absurd (cc is)
 drop_past (x ∷ xs) (suc n) is = drop_past xs n is
 
-some_left : (disks : List DiskNo) (n : ℕ) → n < length disks → (d : ℕ) × (more : List ℕ) × (drop n (numbers disks) ≡ d ∷ more)
+pub some_left : (disks : List DiskNo) (n : ℕ) → n < length disks → (d : ℕ) × (more : List ℕ) × (drop n (numbers disks) ≡ d ∷ more)
 some_left [] n below = absurd (omega (arith, below))
 some_left (x ∷ xs) zero below = (x.0, numbers xs, refl)
 some_left (x ∷ xs) (suc n) below = some_left xs n (omega (arith, below))

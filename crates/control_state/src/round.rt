@@ -1,5 +1,6 @@
 //! Rounds: new metadata goes to each target, first its anchor and then a sync.
-ghost use Rattle.std.specs.Prelude.{◌≡◌, ◌+◌, ◌^◌, ◌<◌, drop, slice_get};
+ghost use Rattle.std.specs.Prelude.{◌≡◌, ◌+◌, ◌^◌, ◌<◌, drop, slice_get, IfSome};
+ghost use Rattle.imsm_base.specs.declared.bounds.TheConstants.{MAX_DISKS};
 ghost use Rattle.stage_machine.specs.Rounds as machine;
 ghost use Rattle.control_state.specs.Seen.{numbers, plan_setting};
 ghost use Rattle.control_state.specs.Book.{laid_of};
@@ -43,7 +44,8 @@ pub struct Round {
 }
 
 fn target_at(plan: &Plan, at: u8) -> Option<DiskNo>
-    ensures { result ≡ slice_get plan.now.targets.items at }
+    ensures target { result ≡ slice_get plan.now.targets.items at }
+    ensures below { IfSome result (λ d. at < MAX_DISKS) }
 {
     plan.targets.as_slice().get(at as usize).copied()
 }
@@ -67,13 +69,15 @@ impl Round {
         requires { self.old.note + 1 < 2 ^ 32 }
         ensures { begun plan.now self.new result ≡ machine.begin (plan_setting plan.now) (round_of plan.now self.old) dirty }
     {
-        if plan.targets.is_empty() {
-            return None;
+        match target_at(plan, 0) {
+            None => None,
+            Some(_) => {
+                self.note += 1;
+                self.next.renew(&self.book, self.note, dirty);
+                self.phase = Phase::Going(Step::Anchor, 0);
+                Some(self.note)
+            }
         }
-        self.note += 1;
-        self.next.renew(&self.book, self.note, dirty);
-        self.phase = Phase::Going(Step::Anchor, 0);
-        Some(self.note)
     }
 
     /// The targets before a place are done: the next one, or the round's end with its generation.
@@ -94,16 +98,18 @@ impl Round {
     pub fn went(&mut self, plan: &Plan) -> Option<u32>
         ensures { ended plan.now self.new result ≡ gone (plan_setting plan.now) (round_of plan.now self.old) (round_of plan.now self.old).phase }
     {
-        let Phase::Going(step, at) = self.phase else {
-            return None;
-        };
-        target_at(plan, at)?;
-        match step {
-            Step::Anchor => {
-                self.phase = Phase::Going(Step::Sync, at);
-                None
-            }
-            Step::Sync => self.to_next(plan, at + 1),
+        match self.phase {
+            Phase::Rest => None,
+            Phase::Going(step, at) => match target_at(plan, at) {
+                None => None,
+                Some(_) => match step {
+                    Step::Anchor => {
+                        self.phase = Phase::Going(Step::Sync, at);
+                        None
+                    }
+                    Step::Sync => self.to_next(plan, at + 1),
+                },
+            },
         }
     }
 }

@@ -5,4 +5,4 @@ use Rattle.control_state.proofs.Books.{generation_laid}
 use Rattle.control_state.proofs.book.Book.generation.Goals as goal
 
 pub returns : goal.returns
-returns c = c.generation.ensures ∙ ap (λ (xs : List ℕ). generation_of (block_in xs)) c.parts.ensures ∙ sym (generation_laid c.args.self.now.block.bytes c.args.self.now.whole)
+returns c = c.generation.ensures ∙ ap (λ (xs : List ℕ). generation_of (block_in xs)) c.parts.ensures.bytes ∙ sym (generation_laid c.args.self.now.block.bytes c.args.self.now.whole)

@@ -7,7 +7,7 @@ use Rattle.control_state.proofs.Books.{has_volume, dirty_laid}
 use Rattle.control_state.proofs.book.Book.is_dirty.Goals as goal
 
 pub dirty-requires : goal.dirty-requires
-dirty-requires c = subst (λ (xs : List ℕ). 0 < volume_count_of (block_in xs)) (sym c.parts.ensures) (has_volume c.args.self.now.block.bytes c.args.self.now.whole)
+dirty-requires c = subst (λ (xs : List ℕ). 0 < volume_count_of (block_in xs)) (sym c.parts.ensures.bytes) (has_volume c.args.self.now.block.bytes c.args.self.now.whole)
 
 pub returns : goal.returns
-returns c = c.dirty.ensures ∙ ap (λ (xs : List ℕ). is_dirty (volume_at 0 (block_in xs))) c.parts.ensures ∙ dirty_laid c.args.self.now.block.bytes c.args.self.now.whole
+returns c = c.dirty.ensures ∙ ap (λ (xs : List ℕ). is_dirty (volume_at 0 (block_in xs))) c.parts.ensures.bytes ∙ dirty_laid c.args.self.now.block.bytes c.args.self.now.whole
