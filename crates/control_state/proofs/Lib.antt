@@ -4,3 +4,4 @@ pub mod Held
 pub mod Eights
 pub mod Books
 pub mod Rounded
+pub mod Submitted

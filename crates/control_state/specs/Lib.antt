@@ -1,3 +1,4 @@
 pub mod Book
 pub mod Seen
 pub mod Rounds
+pub mod Controls

@@ -4,13 +4,16 @@
 
 mod book;
 mod client;
+mod control;
 mod job;
 mod plan;
 mod round;
 mod state;
+mod submit;
 
 pub use book::Book;
 pub use client::{Client, has_write, is_locked, next_op};
+pub use control::{CLIENTS, Control, Events};
 pub use job::{JobStep, Need, Work};
 pub use plan::Plan;
 pub use round::{Ask, Phase, Round, Step};

@@ -26,7 +26,7 @@ pub enum Move {
 }
 
 /// The one volume that is started.
-const VOLUME: VolNo = VolNo(0);
+pub(crate) const VOLUME: VolNo = VolNo(0);
 
 fn starts_if(due: bool) -> Move
     ensures { move_of result ≡ machine.starts_if due }
@@ -65,6 +65,15 @@ impl State {
         match self {
             State::Readonly | State::ReadAuto | State::Clean => false,
             State::Pending | State::Active | State::Idle => true,
+        }
+    }
+
+    pub fn is_readonly(self) -> bool
+        ensures { result ≡ machine.is_readonly (state_of self) }
+    {
+        match self {
+            State::Readonly => true,
+            State::ReadAuto | State::Clean | State::Pending | State::Active | State::Idle => false,
         }
     }
 
