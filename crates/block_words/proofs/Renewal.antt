@@ -1,16 +1,17 @@
 -- The edit of a round, on a whole block of one sector.
-use Rattle.std.proofs.Common.{◌≡◌, ◌≢◌, ℕ, zero, suc, ◌+◌, ◌^◌, ◌<◌, ◌≤◌, ◌==◌, if◌then◌else◌, Bool, true, false, List, [], ◌++◌, length, map, take, replicate, get_or, None, refl, sym, ◌∙◌, ap, subst, arith}
+use Rattle.std.proofs.Common.{min, ◌∷◌, ◌≡◌, ◌≢◌, ℕ, zero, suc, ◌+◌, ◌^◌, ◌<◌, ◌≤◌, ◌==◌, if◌then◌else◌, Bool, true, false, List, [], ◌++◌, length, map, take, replicate, get_or, None, refl, sym, ◌∙◌, ap, subst, arith}
 use Rattle.std.specs.Prelude.{is_none, flat_map}
 use Rattle.std.proofs.lemmas.Bool.{false≢true}
 use Rattle.std.proofs.lemmas.List.{append-nil, take-take, take_at, length-take, get_or-set_same}
 use Rattle.byteorder.specs.Endian.{little_bytes}
 use Rattle.imsm_base.specs.declared.units.Sector.{Sector}
 use Rattle.imsm_base.specs.Fields.{number, number_at}
-use Rattle.imsm_base.specs.Layout.{Block, header_lengths, size_of, generation_of, disk_count_of}
+use Rattle.imsm_base.specs.Layout.{Block, Volume, header_lengths, size_of, generation_of, disk_count_of}
 use Rattle.imsm_base.specs.Parts.{block_in}
 use Rattle.imsm_base.specs.Whole.{IsWholeBlock, IsWholeDisk, block_sum, extended_count, expected_serials}
 use Rattle.imsm_base.specs.Volumes.{members, is_dirty, volume_fault}
-use Rattle.imsm_base.specs.Edits.{with_generation, with_dirty, sized, first_sector, block_with_generation, block_with_dirty, block_with_size, block_sealed}
+use Rattle.imsm_base.specs.Edits.{with_generation, with_dirty, sealed, sized, first_sector, block_with_generation, block_with_dirty, block_with_size, block_sealed}
+use Rattle.imsm_base.specs.FirstForm.{IsFirstForm}
 use Rattle.imsm_base.proofs.Joined.{block_in-spelled}
 use Rattle.imsm_base.proofs.Spliced.{number_at-take, number_at-front}
 use Rattle.imsm_base.proofs.Edited.{fields_of, other_field, length-volumes_with_dirty, length-with_generation, generation-spells, dirty-length}
@@ -188,4 +189,44 @@ renewal m g y r fits =
       dirty = ap (λ (x : Block). of_volume x 0 is_dirty false) k.parts ∙ first-dirty y b.volumes k.old.spells.parts.volumes k.some;
       same = says-same m g y k;
       whole = whole-on m g y k;
+    }
+
+-- the code's edits, one after the other, write that sector
+pub written-anchor : (m : Laid) (g : ℕ) (y : Bool) (bytes : List ℕ) (s : Sector) → bytes ≡ bytes_of_laid m → s.0 ≡ first_sector (sealed (with_dirty (with_generation bytes g) 0 y)) → s ≡ (renewed m g y).anchor
+written-anchor m g y bytes s is at = ap (λ (x : List ℕ). let z : Sector = record { 0 = x } in z) (at ∙ ap (λ (x : List ℕ). first_sector (renewed_bytes x g y)) is)
+
+-- and leave the bytes of the block that is renewed
+pub written-bytes : (m : Laid) (g : ℕ) (y : Bool) → IsRenewable block_words m → bytes_of_laid (renewed m g y) ≡ renewed_bytes (bytes_of_laid m) g y
+written-bytes m g y r = (make m g y r).bytes
+
+-- THE FIRST FORM
+
+-- the size in the anchor is that of a whole block with no more sectors
+size-laid : (m : Laid) (b : Block) → m.extended ≡ [] → IsWholeBlock (bytes_of_laid m) b → number_at 4 36 m.anchor.0 ≡ size_of b
+size-laid m b short w =
+    let size : ℕ = number_at 4 36 m.anchor.0 in
+    let bytes : List ℕ = bytes_of_laid m in
+    let same : block_in bytes ≡ b = block_in-spelled bytes b w.spells in
+    let least : 216 ≤ size_of b = w.sized.least in
+    let given : size_of b ≡ length bytes = w.given in
+    let all : m.anchor.0 ++ flat_map (λ s. s.0) m.extended ≡ m.anchor.0 =
+    ap (λ (x : List Sector). m.anchor.0 ++ flat_map (λ s. s.0) x) short ∙ append-nil m.anchor.0 in
+    let front : bytes ≡ take size m.anchor.0 = ap (take size) all in
+    let few : length bytes ≡ min size (length m.anchor.0) = ap (λ (x : List ℕ). length x) front ∙ length-take size m.anchor.0 in
+    sym (number_at-take 4 36 size m.anchor.0 (omega arith)) ∙ ap (number_at 4 36) (sym front) ∙ size-at bytes ∙ ap size_of same
+
+has-volume : (vs : List Volume) (v : Volume) → vs ≡ v ∷ [] → (if length vs == 0 then false else true) ≡ true
+has-volume vs v one = ap (λ (xs : List Volume). if length xs == 0 then false else true) one
+
+pub first-form : (m : Laid) (own : List ℕ) (n : ℕ) (b : Block) → m.extended ≡ [] → IsWholeDisk own n (bytes_of_laid m) b → IsFirstForm b → IsRenewable block_words m
+first-form m own n b short w form =
+    let bytes : List ℕ = bytes_of_laid m in
+    let same : block_in bytes ≡ b = block_in-spelled bytes b w.whole.spells in
+    record {
+      alone = ap extended_count (size-laid m b short w.whole) ∙ alone_in (size_of b) form.one_sector;
+      short = short;
+      container = ap (λ (x : Block). if length x.volumes == 0 then false else true) same ∙ has-volume b.volumes form.one_volume.0 form.one_volume.1;
+      serial = own;
+      sectors = n;
+      whole = (disk-decided own n bytes).1 (disk-apart own n bytes b w);
     }

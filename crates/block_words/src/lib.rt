@@ -1,9 +1,12 @@
 //! The words of metadata blocks, read from their bytes, and the edit of a round on those bytes.
 #![tactic(auto)]
 
-ghost use Rattle.std.specs.Prelude.{ℕ, Bool};
+ghost use Rattle.std.specs.Prelude.{◌≡◌, ℕ, Bool, List, []};
+ghost use Rattle.imsm_base.specs.Layout.{Block};
+ghost use Rattle.imsm_base.specs.Whole.{IsWholeDisk};
+ghost use Rattle.imsm_base.specs.FirstForm.{IsFirstForm};
 ghost use Rattle.array_model.specs.Blocks.{Laid};
-ghost use Rattle.array_model.specs.Meaning.{ReadsBlocks};
+ghost use Rattle.array_model.specs.Meaning.{bytes_of_laid, ReadsBlocks};
 ghost use Rattle.array_model.specs.Renewal.{FitsGeneration, IsRenewable, IsRenewed};
 ghost use Rattle.block_words.specs.Reading.{block_words};
 ghost use Rattle.block_words.specs.Renewed.{renewed};
@@ -17,4 +20,10 @@ pub fn words_are_those_of_the_bytes()
 /// with volume 0 dirty or clean, which says all else as before and is whole wherever the old one was.
 pub fn edit_of_a_round()
     ensures { (m : Laid) (g : ℕ) (y : Bool) → IsRenewable block_words m → FitsGeneration g → IsRenewed block_words m g y (renewed m g y) }
+{}
+
+/// A round may be edited from each block of the first form that is whole on a disk: what is started meets the condition
+/// of the edit.
+pub fn first_form_is_renewable()
+    ensures { (m : Laid) (own : List ℕ) (n : ℕ) (b : Block) → m.extended ≡ [] → IsWholeDisk own n (bytes_of_laid m) b → IsFirstForm b → IsRenewable block_words m }
 {}

@@ -45,7 +45,7 @@ fn prints_the_verdict(rt: HostRuntime) -> Result<(), Fail> {
 #[test]
 fn refuses_other_words(rt: HostRuntime) -> Result<(), Fail> {
     let alloc = rt.alloc();
-    let rows: [&[&'static str]; 13] = [
+    let rows: [&[&'static str]; 14] = [
         &[],
         &["assemble"],
         &["examine", "A=a"],
@@ -58,15 +58,38 @@ fn refuses_other_words(rt: HostRuntime) -> Result<(), Fail> {
         &["assemble", "A B=a"],
         &["assemble", "ABCDEFGHIJKLMNOPQ=a"],
         &["assemble", "--run", "A=a"],
+        // more images than a command opens, of which two have one file, and the last has no name
         &[
             "assemble", "A=1", "B=2", "C=3", "D=4", "E=5", "F=6", "G=7", "H=8", "I=9", "J=10",
-            "K=11", "L=12", "M=13", "N=14", "O=15", "P=16", "Q=17",
+            "K=11", "L=12", "M=13", "N=14", "O=15", "P=16", "Q=1",
+        ],
+        &[
+            "assemble", "A=1", "B=2", "C=3", "D=4", "E=5", "F=6", "G=7", "H=8", "I=9", "J=10",
+            "K=11", "L=12", "M=13", "N=14", "O=15", "P=16", "=17",
         ],
     ];
     for words in rows {
         let (ended, written) = Case::of(words).run(alloc, pair(alloc)?)?;
         assert_eq!(rt; ended, Status(1));
         assert_eq!(rt; written.as_slice(), b"words\n".as_slice());
+    }
+    Ok(())
+}
+
+/// Nothing is opened: no file of these is there.
+#[test]
+fn opens_no_more_than_16_images(rt: HostRuntime) -> Result<(), Fail> {
+    let alloc = rt.alloc();
+    let words: &[&'static str] = &[
+        "assemble", "A=1", "B=2", "C=3", "D=4", "E=5", "F=6", "G=7", "H=8", "I=9", "J=10", "K=11",
+        "L=12", "M=13", "N=14", "O=15", "P=16", "Q=17",
+    ];
+    let rows: [(usize, u8, &str); 2] = [(17, 7, "open A\n"), (18, 10, "limit images 17\n")];
+    for (count, status, lines) in rows {
+        let case = Case::of(words.get(..count).unwrap_or(words));
+        let (ended, written) = case.run(alloc, pair(alloc)?)?;
+        assert_eq!(rt; ended, Status(status));
+        assert_eq!(rt; written.as_slice(), lines.as_bytes());
     }
     Ok(())
 }

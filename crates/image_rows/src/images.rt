@@ -1,7 +1,7 @@
 //! Images in memory, and what a command makes of them.
 ghost use Rattle.std.specs.Prelude.{◌≡◌, length, IfOk};
 
-use image_run::{MemFile, MemShelf, MemSink, Status, image_main};
+use image_run::{MemFile, MemShelf, MemSink, MemSource, Status, image_main};
 use imsm_base::Sector;
 use member_bank::{FailAt, LogRoom};
 use std::alloc::Global;
@@ -104,7 +104,8 @@ impl<'a> Case<'a> {
         };
         let mut shelf = MemShelf::new(alloc, files, self.opens.to_vec(alloc)?, device, room)?;
         let mut sink = MemSink::new(alloc, self.writes.to_vec(alloc)?, self.room)?;
-        let status = image_main(alloc, words.as_slice(), &mut shelf, &mut sink);
+        let mut source = MemSource::new(Vec::new(alloc), Vec::new(alloc));
+        let status = image_main(alloc, words.as_slice(), &mut shelf, &mut source, &mut sink);
         Ok((status, sink.written().to_vec(alloc)?))
     }
 }

@@ -5,3 +5,5 @@
 mod assemble;
 #[cfg(test)]
 mod images;
+#[cfg(test)]
+mod source;

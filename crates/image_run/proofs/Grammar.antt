@@ -1,15 +1,13 @@
 -- Words name their images in one way.
-use Rattle.std.proofs.Common.{◌≡◌, ◌<◌, ◌&&◌, ℕ, suc, zero, List, [], ◌∷◌, ◌++◌, Bool, true, false, length, map, get_or, refl, sym, ◌∙◌, ap, arith, String, ◌≤◌}
-use Rattle.std.specs.Prelude.{◌==◌}
-use Rattle.std.proofs.lemmas.Bool.Decides.{nat_tests}
+use Rattle.std.proofs.Common.{◌≡◌, ◌<◌, ◌≤◌, ◌+◌, ◌-◌, ◌&&◌, ℕ, suc, zero, List, [], ◌∷◌, ◌++◌, Bool, true, false, length, map, take, drop, get_or, refl, sym, ◌∙◌, ap, subst, arith, drop-drop, length-drop, String}
 use Rattle.std.specs.Prelude.{string_bytes}
 use Rattle.std.specs.declared.alloc.Global.{Global}
 use Rattle.std.specs.List.{AllByRecursion, list_all}
 use Rattle.std.proofs.lemmas.Bool.{false≢true}
-use Rattle.std.proofs.lemmas.List.{length-map}
+use Rattle.std.proofs.lemmas.List.{length-map, take_all}
 use Rattle.std.proofs.lemmas.List.Folds.{list_all-map}
 use Rattle.image_run.specs.declared.words.ImageArg.{ImageArg}
-use Rattle.image_run.specs.Words.{ImageWord, IsImageWord, IsCommand, is_name_byte, is_apart_from, are_distinct, assemble_word, spelled, texts}
+use Rattle.image_run.specs.Words.{ImageWord, IsAssemble, IsImageWord, IsCommand, is_name_byte, is_apart_from, are_distinct, assemble_word, spelled, texts}
 use Rattle.image_run.specs.Args.{word_of, words_of}
 use Rattle.image_run.proofs.Names.{bytes_of_name, not_equals, same_word}
 
@@ -57,33 +55,39 @@ word_at [] k d each below = absurd (omega arith)
 word_at (w ∷ ws) zero d each below = (w, each.0, refl)
 word_at (w ∷ ws) (suc k) d each below = word_at ws k d each.1 (omega arith)
 
-pub apart_then : (all : List ImageArg) (image : ImageArg) (others : List ImageArg) (b r : Bool) → all ≡ image ∷ others
-    → b ≡ list_all (λ (o : ImageArg). is_apart_from (word_of image) (word_of o)) others → b ≡ true → r ≡ are_distinct (words_of others)
-    → r ≡ are_distinct (words_of all)
-apart_then all image others b r split is apart rest = rest ∙ sym (rw (split, distinct-cons image others, ← is, apart) refl)
+pub first_apart : (all : List ImageArg) (image : ImageArg) (others : List ImageArg) (b : Bool) → all ≡ image ∷ others
+    → b ≡ list_all (λ (o : ImageArg). is_apart_from (word_of image) (word_of o)) others
+    → are_distinct (words_of all) ≡ (b && are_distinct (words_of (drop 1 all)))
+first_apart all image others b split is = rw (split, distinct-cons image others, ← is) refl
 
-pub apart_else : (all : List ImageArg) (image : ImageArg) (others : List ImageArg) (b : Bool) → all ≡ image ∷ others
-    → b ≡ list_all (λ (o : ImageArg). is_apart_from (word_of image) (word_of o)) others → b ≡ false
-    → b ≡ are_distinct (words_of all)
-apart_else all image others b split is apart = apart ∙ sym (rw (split, distinct-cons image others, ← is, apart) refl)
+-- the images from a place on are apart as those behind it, where the first of them is apart from these
+pub apart_from : (all : List ImageArg) (i : ℕ) (b : Bool)
+    → are_distinct (words_of (take (length all - i) (drop i all))) ≡ (b && are_distinct (words_of (drop 1 (take (length all - i) (drop i all)))))
+    → are_distinct (words_of (drop i all)) ≡ (b && are_distinct (words_of (drop (i + 1) all)))
+apart_from all i b is =
+    let fits : length (drop i all) ≤ length all - i = omega (arith, length-drop i all) in
+    let same : take (length all - i) (drop i all) ≡ drop i all = take_all (length all - i) (drop i all) fits in
+    let tested : are_distinct (words_of (drop i all)) ≡ (b && are_distinct (words_of (drop 1 (drop i all)))) =
+    subst (λ (l : List ImageArg). are_distinct (words_of l) ≡ (b && are_distinct (words_of (drop 1 l)))) same is in
+    tested ∙ ap (λ (l : List ImageArg). b && are_distinct (words_of l)) (drop-drop 1 i all)
 
--- the words after the first are those of the images
-pub assembled : (words : List (String Global)) (first : String Global) (rest : List (String Global)) (ws : List ImageWord) → words ≡ first ∷ rest
-    → string_bytes first ≡ assemble_word → texts rest ≡ map spelled ws → texts words ≡ assemble_word ∷ map spelled ws
-assembled words first rest ws split named same = rw (split, named, same) refl
+rest_same : (word : List ℕ) (xs ys : List (List ℕ)) → word ∷ xs ≡ word ∷ ys → xs ≡ ys
+rest_same word xs ys same = cc
 
-pub not_distinct : (words : List (String Global)) (first : String Global) (rest : List (String Global)) (vs : List ImageWord) → words ≡ first ∷ rest
-    → texts rest ≡ map spelled vs → AllByRecursion IsImageWord vs → false ≡ are_distinct vs → IsCommand (texts words) → ⊥
-not_distinct words first rest vs split same each repeated command =
+-- the words after the first spell the images
+pub rest_spelled : (words rest : List (List ℕ)) (ws : List ImageWord) → words ≡ assemble_word ∷ rest → IsAssemble words ws → rest ≡ map spelled ws
+rest_spelled words rest ws split is = rest_same assemble_word rest (map spelled ws) (sym split ∙ is.words_are)
+
+pub one_reading : (words : List (List ℕ)) (vs ws : List ImageWord) → IsAssemble words vs → IsAssemble words ws → vs ≡ ws
+one_reading words vs ws one other = words_same vs ws one.named.each other.named.each (sym (rest_spelled words (map spelled vs) vs one.words_are one) ∙ rest_spelled words (map spelled vs) ws one.words_are other)
+
+pub not_distinct : (words rest : List (List ℕ)) (vs : List ImageWord) → words ≡ assemble_word ∷ rest
+    → rest ≡ map spelled vs → AllByRecursion IsImageWord vs → false ≡ are_distinct vs → IsCommand words → ⊥
+not_distinct words rest vs split same each repeated command =
     let ws = command.0 in
-    let rests : map spelled vs ≡ map spelled ws =
-    let both : string_bytes first ∷ texts rest ≡ assemble_word ∷ map spelled ws = ap texts (sym split) ∙ command.1.words_are in
-    let tails : texts rest ≡ map spelled ws = cc in sym same ∙ tails in
+    let rests : map spelled vs ≡ map spelled ws = sym same ∙ rest_spelled words rest ws split command.1 in
     let equal : vs ≡ ws = words_same vs ws each command.1.named.each rests in
     false≢true (repeated ∙ ap are_distinct equal ∙ command.1.named.distinct)
 
 pub same_count : (rest : List (String Global)) (vs : List ImageWord) → texts rest ≡ map spelled vs → length rest ≡ length vs
 same_count rest vs same = sym (length-map rest (λ (w : String Global). string_bytes w)) ∙ (ap (λ (l : List (List ℕ)). length l) same ∙ length-map vs spelled)
-
-pub some_left : (rest images : ℕ) → false ≡ (rest == 0) → rest ≡ images → 1 ≤ images
-some_left rest images some same = grind (arith, nat_tests)

@@ -1,4 +1,5 @@
 pub mod Written
+pub mod Taken
 pub mod Names
 pub mod Grammar
 pub mod Trimmed

@@ -33,13 +33,6 @@ pub record EndsWithoutMemory (old new : Option (List ℕ)) (before now : ℕ) : 
 abbrev pub IsReported : ℕ → Type 0
 IsReported status = (status ≡ 0) ⊎ (status ≡ 2) ⊎ (status ≡ 14)
 
--- the statuses of a command whose words are in the grammar, and of any other
-abbrev pub IsAssembleStatus : ℕ → Type 0
-IsAssembleStatus status = (status ≡ 0) ⊎ (status ≡ 2) ⊎ (status ≡ 6) ⊎ (status ≡ 7) ⊎ (status ≡ 9) ⊎ (status ≡ 14)
-
-abbrev pub IsOtherStatus : ℕ → Type 0
-IsOtherStatus status = (status ≡ 1) ⊎ (status ≡ 6) ⊎ (status ≡ 9)
-
 -- what was added is the text of the report on these images, and the status is that of the report
 pub record Reports (images : List ImageRead) (old new : Option (List ℕ)) (status : ℕ) : Type 0 where
   pub report : Report

@@ -1,5 +1,5 @@
 -- What contracts see of the outside in memory.
-use Rattle.std.specs.Prelude.{ℕ, ◌-◌, ◌==◌, ◌&&◌, ◌||◌, nat_lt, Bool, List, [], ◌∷◌, ◌++◌, length, take, if◌then◌else◌, Option, None, string_bytes}
+use Rattle.std.specs.Prelude.{ℕ, ◌-◌, ◌==◌, ◌&&◌, ◌||◌, nat_lt, Bool, List, [], ◌∷◌, ◌++◌, length, take, drop, if◌then◌else◌, Option, None, string_bytes}
 use Rattle.std.specs.List.{list_any, find}
 use Rattle.std.specs.Str.{bytes_eq}
 use Rattle.std.specs.Option.{option_map}
@@ -8,6 +8,24 @@ use Rattle.imsm_base.specs.declared.units.Serial.{Serial}
 use Rattle.member_bank.specs.Faults.{next_count}
 use Rattle.member_bank.specs.Memory.{MemState}
 use Rattle.image_run.specs.declared.shelf.MemFile.{MemFile}
+
+-- the bytes that are left, the numbers of the calls that fail, and the calls and the faults so far
+pub record SourceState : Type 0 where
+  pub left : List ℕ
+  pub fails : List ℕ
+  pub calls : ℕ
+  pub faults : ℕ
+
+-- the next read fails: its number is listed
+abbrev pub fails_next : SourceState → Bool
+fails_next s = list_any (λ n. n == next_count s.calls) s.fails
+
+-- the source after a read into a piece of so many bytes, which takes what fits, and after one that failed
+abbrev pub read_by : SourceState → ℕ → SourceState
+read_by s room = record s { calls = next_count s.calls; left = drop room s.left }
+
+abbrev pub unread : SourceState → SourceState
+unread s = record s { calls = next_count s.calls; faults = next_count s.faults }
 
 -- the bytes written, the numbers of the calls that fail, the calls and the faults so far, and the room for bytes
 pub record SinkState : Type 0 where

@@ -1,4 +1,5 @@
--- What the outside tells: bytes that were written, and the bank that a shelf holds.
+-- What the outside tells: bytes that are left or were written, and the bank that a shelf holds. Source: this project's
+-- own.
 use Rattle.std.specs.Prelude.{◌≡◌, ◌≢◌, ℕ, ◌≤◌, Bool, true, List, [], ◌∷◌, ◌++◌, length, take, All, Option, Some, IfSome, ⊤}
 use Rattle.std.specs.List.{AllByRecursion}
 use Rattle.imsm_base.specs.declared.units.Sector.{Sector}
@@ -16,6 +17,24 @@ pub record AddsFront (old new : Option (List ℕ)) (bytes : List ℕ) (well : Bo
   pub few : count ≤ length bytes
   pub all : well ≡ true → count ≡ length bytes
   pub adds : Adds old new (take count bytes)
+
+-- bytes that are told to be left after a call were left before it, behind these
+abbrev pub Takes : Option (List ℕ) → Option (List ℕ) → List ℕ → Type 0
+Takes old new bytes = (now : List ℕ) → new ≡ Some now → old ≡ Some (bytes ++ now)
+
+-- no byte is left, where that is told
+abbrev pub IsAtEnd : Option (List ℕ) → Type 0
+IsAtEnd left = IfSome left (λ bytes. bytes ≡ [])
+
+-- what was told to be left was read to its end, and is these bytes
+abbrev pub TakesAll : Option (List ℕ) → Option (List ℕ) → List ℕ → Type 0
+TakesAll old new bytes = (now : List ℕ) → new ≡ Some now → (old ≡ Some bytes) × (now ≡ [])
+
+-- so many first bytes of what was left were read
+pub record TakesFront (old new : Option (List ℕ)) (count : ℕ) : Type 0 where
+  pub front : List ℕ
+  pub counted : length front ≡ count
+  pub takes : Takes old new front
 
 -- what a log says was done: reads alone
 abbrev pub IsRead : What → Type 0

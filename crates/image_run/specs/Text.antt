@@ -3,6 +3,7 @@ use Rattle.std.specs.Prelude.{ℕ, ◌+◌, ◌/◌, ◌%◌, ◌==◌, ◌&&◌
 use Rattle.std.specs.Int.{to_be_bytes, w32}
 use Rattle.std.specs.List.{flat_map, list_all}
 use Rattle.std.specs.Fmt.{decimal}
+use Rattle.imsm_base.specs.declared.bounds.TheConstants.{MAX_DISKS}
 use Rattle.imsm_base.specs.declared.units.Serial.{Serial}
 use Rattle.image_run.specs.declared.report.Report.{Report}
 use Rattle.image_run.specs.declared.report.Report.TheVariants.{Unbuilt, Waiting, Started}
@@ -59,6 +60,13 @@ waiting_text family generation missing = family_line family generation ++ flat_m
 abbrev pub started_text : ℕ → ℕ → List Serial → List ℕ
 started_text family generation present =
     family_line family generation ++ (codes "volume 0 started\n" ++ flat_map member_line present)
+
+-- a limit that is passed: the limit of what, and the first number past it
+abbrev pub limit_line : List ℕ → ℕ → List ℕ
+limit_line kind past = codes "limit " ++ (kind ++ (codes " " ++ (decimal past ++ line_feed)))
+
+abbrev pub images_limit_line : List ℕ
+images_limit_line = limit_line (codes "images") (MAX_DISKS + 1)
 
 -- the lines of a report
 abbrev pub report_text : Report → List ℕ

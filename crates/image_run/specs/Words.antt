@@ -1,5 +1,5 @@
 -- The words of a command. Source: this project's own.
-use Rattle.std.specs.Prelude.{◌≡◌, ℕ, ◌-◌, ◌≤◌, ◌==◌, ◌&&◌, nat_le, not, Bool, true, List, [], ◌∷◌, ◌++◌, length, map, codes, replicate, String, string_bytes}
+use Rattle.std.specs.Prelude.{◌≡◌, ℕ, ◌-◌, ◌<◌, ◌≤◌, ◌==◌, ◌&&◌, nat_le, not, Bool, true, List, [], ◌∷◌, ◌++◌, length, map, codes, replicate, String, string_bytes}
 use Rattle.std.specs.Str.{bytes_eq}
 use Rattle.std.specs.declared.alloc.Global.{Global}
 use Rattle.std.specs.List.{AllByRecursion, list_all}
@@ -38,10 +38,9 @@ abbrev pub are_distinct : List ImageWord → Bool
 are_distinct [] = true
 are_distinct (w ∷ ws) = list_all (is_apart_from w) ws && are_distinct ws
 
--- the words that name images: 1 to 16
+-- the words that name images, at least one
 pub record AreImages (images : List ImageWord) : Type 0 where
   pub one : 1 ≤ length images
-  pub few : length images ≤ MAX_DISKS
   pub each : AllByRecursion IsImageWord images
   pub distinct : are_distinct images ≡ true
 
@@ -56,6 +55,13 @@ pub record IsAssemble (words : List (List ℕ)) (images : List ImageWord) : Type
 -- the grammar of words, which has one command
 abbrev pub IsCommand : List (List ℕ) → Type 0
 IsCommand words = (images : List ImageWord) × IsAssemble words images
+
+-- a command that opens its images, and one that names more of them than are opened
+abbrev pub IsWithinLimit : List (List ℕ) → Type 0
+IsWithinLimit words = (images : List ImageWord) × IsAssemble words images × (length images ≤ MAX_DISKS)
+
+abbrev pub IsPastLimit : List (List ℕ) → Type 0
+IsPastLimit words = (images : List ImageWord) × IsAssemble words images × (MAX_DISKS < length images)
 
 -- what is known of words as text
 abbrev pub texts : List (String Global) → List (List ℕ)

@@ -3,20 +3,20 @@ ghost use Rattle.std.specs.Prelude.{◌≡◌, ◌≢◌, ◌≤◌, ◌⊎◌, 
 ghost use Rattle.std.specs.Option.{IsSomeAnd};
 ghost use Rattle.member_bank.specs.Faults.{Rose};
 ghost use Rattle.image_run.specs.Outside.{Adds, IsUnused};
-ghost use Rattle.image_run.specs.Words.{AreImages, ImageWord, IsAssemble, IsCommand, texts};
+ghost use Rattle.image_run.specs.Words.{AreImages, ImageWord, IsAssemble, IsCommand, IsPastLimit, IsWithinLimit, texts};
 ghost use Rattle.image_run.specs.Args.{words_of};
 ghost use Rattle.image_run.specs.Images.{images_told};
-ghost use Rattle.image_run.specs.Text.{report_status, report_text};
+ghost use Rattle.image_run.specs.Text.{images_limit_line, report_status, report_text};
 ghost use Rattle.image_run.specs.Endings.{EndsWithoutMemory, HasOnlyReads, IsReported, Reports, Tells, words_line};
 
 use crate::images::read_images;
 use crate::opening::{OpenFault, open_all};
-use crate::outside::{Shelf, Sink};
+use crate::outside::{Shelf, Sink, Source};
 use crate::report::Report;
 use crate::status::{Status, end, end_unopened, end_without_memory};
 use crate::text::text_of;
 use crate::verdict::report_on;
-use crate::words::{ImageArg, parse};
+use crate::words::{ImageArg, WordsFault, parse};
 use imsm_base::MAX_DISKS;
 use member_bank::Bank;
 use std::alloc::Global;
@@ -74,6 +74,7 @@ fn run<H: Shelf, K: Sink>(
 ) -> Status
     requires unused { IsSomeAnd (H.held shelf.old) (IsUnused H.Held.serials H.Held.log) }
     requires named { AreImages (words_of images.now) }
+    requires few { length images.now ≤ MAX_DISKS }
     ensures reads { IsSomeAnd (H.held shelf.new) (HasOnlyReads H.Held.log) }
     ensures status { IsReported result.0 ⊎ (result.0 ≡ 6) ⊎ (result.0 ≡ 7) ⊎ (result.0 ≡ 9) }
     ensures write_fault { result.0 ≡ 6 → Rose (K.faults_of sink.old) (K.faults_of sink.new) }
@@ -95,13 +96,15 @@ fn run<H: Shelf, K: Sink>(
 
 /// Runs a command that waits for nobody.
 ///
-/// The words are `assemble` and 1 to 16 words NAME=FILE. The status is 0 where the volume starts, 1 where the words are
-/// others, 2 where a disk of the container is absent, 6 where a line couldn't be written, 7 where an image couldn't be
-/// opened, 9 without memory, and 14 where an image isn't of the form that is started today.
-pub fn image_still<H: Shelf, K: Sink>(
+/// The words are `assemble` and words NAME=FILE, at least one. The status is 0 where the volume starts, 1 where the words
+/// are others, 2 where a disk of the container is absent, 6 where a line couldn't be written, 7 where an image couldn't
+/// be opened, 9 without memory, 10 where more than 16 images are named, and 14 where an image isn't of the form that is
+/// started today.
+pub fn image_still<H: Shelf, S: Source, K: Sink>(
     alloc: Global,
     words: &[String],
     shelf: &mut H,
+    source: &mut S,
     sink: &mut K,
 ) -> Status
     requires unused { IsSomeAnd (H.held shelf.old) (IsUnused H.Held.serials H.Held.log) }
@@ -109,30 +112,44 @@ pub fn image_still<H: Shelf, K: Sink>(
     // No disk is written or synced, whatever the status.
     ensures reads { IsSomeAnd (H.held shelf.new) (HasOnlyReads H.Held.log) }
 
+    // No command reads the source.
+    ensures source_left { S.left source.new ≡ S.left source.old }
+    ensures source_faults { S.faults_of source.new ≡ S.faults_of source.old }
+
+    // Nothing is opened where the words are outside the grammar or name too many images.
+    ensures unopened { (IsWithinLimit (texts words.now) → ⊥) → H.held shelf.new ≡ H.held shelf.old }
+    ensures unopened_faults { (IsWithinLimit (texts words.now) → ⊥) → H.faults_of shelf.new ≡ H.faults_of shelf.old }
+
     // When each status comes.
     ensures words { result.0 ≡ 1 → IsCommand (texts words.now) → ⊥ }
     ensures no_command { (IsCommand (texts words.now) → ⊥) → (result.0 ≡ 1) ⊎ (result.0 ≡ 6) ⊎ (result.0 ≡ 9) }
-    ensures command { IsCommand (texts words.now) → IsReported result.0 ⊎ (result.0 ≡ 6) ⊎ (result.0 ≡ 7) ⊎ (result.0 ≡ 9) }
+    ensures limit { result.0 ≡ 10 → IsPastLimit (texts words.now) }
+    ensures past_limit { IsPastLimit (texts words.now) → (result.0 ≡ 10) ⊎ (result.0 ≡ 6) ⊎ (result.0 ≡ 9) }
+    ensures within_limit { IsWithinLimit (texts words.now) → IsReported result.0 ⊎ (result.0 ≡ 6) ⊎ (result.0 ≡ 7) ⊎ (result.0 ≡ 9) }
     ensures write_fault { result.0 ≡ 6 → Rose (K.faults_of sink.old) (K.faults_of sink.new) }
     ensures open_fault { result.0 ≡ 7 → Rose (H.faults_of shelf.old) (H.faults_of shelf.new) }
 
     // What is printed.
     ensures words_line { result.0 ≡ 1 → Adds (K.written sink.old) (K.written sink.new) words_line }
+    ensures limit_line { result.0 ≡ 10 → Adds (K.written sink.old) (K.written sink.new) images_limit_line }
     ensures memory { result.0 ≡ 9 → EndsWithoutMemory (K.written sink.old) (K.written sink.new) (K.faults_of sink.old) (K.faults_of sink.new) }
     ensures told { IsReported result.0 → (images : List ImageWord) × IsAssemble (texts words.now) images × IsSomeAnd (H.held shelf.new)
         (Tells H.Held.serials H.Held.sizes H.Held.opening H.Held.log images (K.written sink.old) (K.written sink.new) result.0) }
 {
-    match parse(words) {
-        Some(images) => run(alloc, images.as_slice(), shelf, sink),
-        None => end(sink, b"words\n", Status::WORDS),
+    match parse(alloc, words) {
+        Ok(images) => run(alloc, images.as_slice(), shelf, sink),
+        Err(WordsFault::Memory) => end_without_memory(sink),
+        Err(WordsFault::Words) => end(sink, b"words\n", Status::WORDS),
+        Err(WordsFault::Images) => end(sink, b"limit images 17\n", Status::LIMIT),
     }
 }
 
 /// Runs a command. All of them wait for nobody today.
-pub fn image_main<H: Shelf, K: Sink>(
+pub fn image_main<H: Shelf, S: Source, K: Sink>(
     alloc: Global,
     words: &[String],
     shelf: &mut H,
+    source: &mut S,
     sink: &mut K,
 ) -> Status
     requires unused { IsSomeAnd (H.held shelf.old) (IsUnused H.Held.serials H.Held.log) }
@@ -140,18 +157,29 @@ pub fn image_main<H: Shelf, K: Sink>(
     // No disk is written or synced, whatever the status.
     ensures reads { IsSomeAnd (H.held shelf.new) (HasOnlyReads H.Held.log) }
 
+    // No command reads the source.
+    ensures source_left { S.left source.new ≡ S.left source.old }
+    ensures source_faults { S.faults_of source.new ≡ S.faults_of source.old }
+
+    // Nothing is opened where the words are outside the grammar or name too many images.
+    ensures unopened { (IsWithinLimit (texts words.now) → ⊥) → H.held shelf.new ≡ H.held shelf.old }
+    ensures unopened_faults { (IsWithinLimit (texts words.now) → ⊥) → H.faults_of shelf.new ≡ H.faults_of shelf.old }
+
     // When each status comes.
     ensures words { result.0 ≡ 1 → IsCommand (texts words.now) → ⊥ }
     ensures no_command { (IsCommand (texts words.now) → ⊥) → (result.0 ≡ 1) ⊎ (result.0 ≡ 6) ⊎ (result.0 ≡ 9) }
-    ensures command { IsCommand (texts words.now) → IsReported result.0 ⊎ (result.0 ≡ 6) ⊎ (result.0 ≡ 7) ⊎ (result.0 ≡ 9) }
+    ensures limit { result.0 ≡ 10 → IsPastLimit (texts words.now) }
+    ensures past_limit { IsPastLimit (texts words.now) → (result.0 ≡ 10) ⊎ (result.0 ≡ 6) ⊎ (result.0 ≡ 9) }
+    ensures within_limit { IsWithinLimit (texts words.now) → IsReported result.0 ⊎ (result.0 ≡ 6) ⊎ (result.0 ≡ 7) ⊎ (result.0 ≡ 9) }
     ensures write_fault { result.0 ≡ 6 → Rose (K.faults_of sink.old) (K.faults_of sink.new) }
     ensures open_fault { result.0 ≡ 7 → Rose (H.faults_of shelf.old) (H.faults_of shelf.new) }
 
     // What is printed.
     ensures words_line { result.0 ≡ 1 → Adds (K.written sink.old) (K.written sink.new) words_line }
+    ensures limit_line { result.0 ≡ 10 → Adds (K.written sink.old) (K.written sink.new) images_limit_line }
     ensures memory { result.0 ≡ 9 → EndsWithoutMemory (K.written sink.old) (K.written sink.new) (K.faults_of sink.old) (K.faults_of sink.new) }
     ensures told { IsReported result.0 → (images : List ImageWord) × IsAssemble (texts words.now) images × IsSomeAnd (H.held shelf.new)
         (Tells H.Held.serials H.Held.sizes H.Held.opening H.Held.log images (K.written sink.old) (K.written sink.new) result.0) }
 {
-    image_still(alloc, words, shelf, sink)
+    image_still(alloc, words, shelf, source, sink)
 }

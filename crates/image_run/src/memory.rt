@@ -1,11 +1,11 @@
 //! The outside in memory, with calls that fail by number.
-ghost use Rattle.std.specs.Prelude.{◌≡◌, ◌+◌, ◌-◌, ◌<◌, ◌≤◌, [], Some, Ok, Err, length, take, min, if◌then◌else◌, is_ok, not, IfOk, OnOk, OnErr};
+ghost use Rattle.std.specs.Prelude.{◌≡◌, ◌+◌, ◌-◌, ◌<◌, ◌≤◌, [], Some, Ok, Err, length, take, drop, min, if◌then◌else◌, is_ok, not, IfOk, OnOk, OnErr};
 ghost use Rattle.member_bank.specs.Faults.{Rose};
 ghost use Rattle.member_bank.specs.Told.{Keeps};
-ghost use Rattle.image_run.specs.Outside.{Adds};
-ghost use Rattle.image_run.specs.Memory.{is_refused, written_to, refused_by};
+ghost use Rattle.image_run.specs.Outside.{Adds, Takes, IsAtEnd};
+ghost use Rattle.image_run.specs.Memory.{fails_next, read_by, unread, is_refused, written_to, refused_by};
 
-use crate::Sink;
+use crate::{Sink, Source};
 use member_bank::Failed;
 use std::alloc::Global;
 use std::marker::Model;
@@ -16,6 +16,87 @@ use thiserror::Error;
 pub enum MemFault {
     #[error("out of memory")]
     Memory,
+}
+
+/// A source over bytes in memory.
+#[derive(Drop)]
+pub struct MemSource {
+    bytes: Vec<u8>,
+    fails: Vec<u64>,
+    at: usize,
+    calls: u64,
+    faults: u64,
+}
+
+impl Model for MemSource {
+    ghost use Rattle.std.specs.Prelude.{◌≤◌, drop, vec_len};
+    ghost use Rattle.image_run.specs.Memory.{SourceState};
+
+    ghost Value = { SourceState };
+
+    ghost view = { λ s. record { left = drop s.at s.bytes.items; fails = s.fails.items; calls = s.calls; faults = s.faults } };
+
+    ghost invariant = { λ s. s.at ≤ vec_len s.bytes };
+}
+
+impl MemSource {
+    /// A source of these bytes. The reads of these numbers, counted from 1, fail.
+    pub fn new(bytes: Vec<u8>, fails: Vec<u64>) -> MemSource
+        ensures { result ≡ record { left = bytes.items; fails = fails.items; calls = 0; faults = 0 } }
+    {
+        MemSource {
+            bytes,
+            fails,
+            at: 0,
+            calls: 0,
+            faults: 0,
+        }
+    }
+}
+
+/// Copies as many first bytes to the front of a piece as fit, and answers how many.
+fn move_front(from: &[u8], into: &mut [u8]) -> usize
+    ensures count { result ≡ min (length from.now) (length into.old) }
+    ensures moved { take result into.new ≡ take result from.now }
+    ensures rest { drop result into.new ≡ drop result into.old }
+{
+    let count = from.len().min(into.len());
+    into[..count].copy_from_slice(&from[..count]);
+    count
+}
+
+impl Source for MemSource {
+    ghost left = { λ s. Some s.left };
+
+    ghost faults_of = { λ s. s.faults };
+
+    fn read(&mut self, into: &mut [u8]) -> Result<usize, Failed>
+        ensures count { IfOk result (λ n. n ≤ length into.old) }
+        ensures moved { IfOk result (λ n. Takes (Some self.old.left) (Some self.new.left) (take n into.new)) }
+        ensures rest { IfOk result (λ n. drop n into.new ≡ drop n into.old) }
+        ensures end { IfOk result (λ n. n ≡ 0 → 0 < length into.old → IsAtEnd (Some self.old.left)) }
+        ensures refused { OnErr result (Keeps (Some self.old.left) (Some self.new.left)) }
+        ensures piece { OnErr result (into.new ≡ into.old) }
+        ensures later { self.old.faults ≤ self.new.faults }
+        ensures failed { OnErr result (Rose self.old.faults self.new.faults) }
+
+        ensures outcome { is_ok result ≡ not (fails_next self.old) }
+        ensures ok { OnOk result (self.new ≡ read_by self.old (length into.old)) }
+        ensures err { OnErr result (self.new ≡ unread self.old) }
+    {
+        self.calls = self.calls.saturating_add(1);
+        if self.fails.contains(&self.calls) {
+            self.faults = self.faults.saturating_add(1);
+            return Err(Failed);
+        }
+        let count = move_front(&self.bytes[self.at..], into);
+        self.at += count;
+        Ok(count)
+    }
+
+    fn faults(&self) -> u64 {
+        self.faults
+    }
 }
 
 /// A sink over bytes in memory. Room for all of them is taken at the start.

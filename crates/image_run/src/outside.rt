@@ -1,13 +1,38 @@
-//! The outside as traits: where a command's lines go, and where its disks come from.
-ghost use Rattle.std.specs.Prelude.{◌≡◌, ℕ, ◌<◌, ◌≤◌, List, Option, Some, None, length, take, is_ok, IsSome, IfOk, IfSome, OnOk, OnErr};
+//! The outside as traits: where a command's script comes from, where its lines go, and where its disks come from.
+ghost use Rattle.std.specs.Prelude.{◌≡◌, ℕ, ◌<◌, ◌≤◌, List, Option, Some, None, length, take, drop, is_ok, IsSome, IfOk, IfSome, OnOk, OnErr};
 ghost use Rattle.std.specs.Option.{IsSomeAnd};
 ghost use Rattle.member_bank.specs.Faults.{Rose};
 ghost use Rattle.member_bank.specs.Told.{Keeps};
-ghost use Rattle.image_run.specs.Outside.{Adds, AddsFront, IsNew, HasOneMore};
+ghost use Rattle.image_run.specs.Outside.{Adds, AddsFront, Takes, IsAtEnd, IsNew, HasOneMore};
 
 use imsm_base::{DiskNo, MAX_DISKS, Serial};
 use member_bank::{Bank, Failed};
 use std::alloc::Global;
+
+/// Where bytes come from, as those of a script.
+pub trait Source {
+    /// The bytes that are left, where they are told.
+    ghost left: { Self → Option (List ℕ) };
+
+    /// How often a read has failed.
+    ghost faults_of: { Self → ℕ };
+
+    /// Moves some first bytes of what is left to the front of a piece, and answers how many. The rest of the piece stays
+    /// as it was, and after a failed read all of it. 0 bytes into a piece that isn't empty are the end of the input.
+    fn read(&mut self, into: &mut [u8]) -> Result<usize, Failed>
+        ensures count { IfOk result (λ n. n ≤ length into.old) }
+        ensures moved { IfOk result (λ n. Takes (left self.old) (left self.new) (take n into.new)) }
+        ensures rest { IfOk result (λ n. drop n into.new ≡ drop n into.old) }
+        ensures end { IfOk result (λ n. n ≡ 0 → 0 < length into.old → IsAtEnd (left self.old)) }
+        ensures refused { OnErr result (Keeps (left self.old) (left self.new)) }
+        ensures piece { OnErr result (into.new ≡ into.old) }
+        ensures later { faults_of self.old ≤ faults_of self.new }
+        ensures failed { OnErr result (Rose (faults_of self.old) (faults_of self.new)) };
+
+    /// How often a read has failed.
+    fn faults(&self) -> u64
+        ensures { result ≡ faults_of self.now };
+}
 
 /// Where lines go.
 pub trait Sink {

@@ -24,6 +24,8 @@ impl Status {
     pub const OPEN_FAULT: Status = Status(7);
     /// There was no memory.
     pub const MEMORY: Status = Status(9);
+    /// A limit is passed.
+    pub const LIMIT: Status = Status(10);
     /// An image isn't of the form that is started today.
     pub const UNBUILT: Status = Status(14);
 }

@@ -1,12 +1,14 @@
 //! The words of a command: what is in the grammar, and the images that they name.
-ghost use Rattle.std.specs.Prelude.{◌≡◌, ◌↔◌, ◌&&◌, nat_le, ℕ, ◌<◌, ◌≤◌, List, length, map, IsTrue, IsSome, IfSome, IfNone};
+ghost use Rattle.std.specs.Prelude.{◌≡◌, ◌≢◌, ◌↔◌, ◌&&◌, nat_le, ℕ, ◌<◌, ◌≤◌, List, ◌∷◌, length, map, drop, Err, IsTrue, IsSome, IfSome, IfNone, IfOk};
 ghost use Rattle.std.specs.List.{AllByRecursion, list_all};
 ghost use Rattle.std.specs.Option.{IsSomeAnd};
-ghost use Rattle.image_run.specs.Words.{ImageWord, IsImageWord, IsAssemble, IsCommand, are_distinct, assemble_word, is_apart_from, is_name, is_name_byte, serial_named, spelled, texts};
+ghost use Rattle.image_run.specs.Words.{ImageWord, IsImageWord, IsAssemble, IsCommand, IsWithinLimit, IsPastLimit, are_distinct, assemble_word, is_apart_from, is_name, is_name_byte, serial_named, spelled, texts};
 ghost use Rattle.image_run.specs.Args.{word_of, words_of};
+ghost use Rattle.image_run.specs.declared.words.WordsFault.TheVariants as faults;
 
-use arrayvec::ArrayVec;
 use imsm_base::{MAX_DISKS, SERIAL_BYTES, Serial};
+use std::alloc::{AllocFailed, Global};
+use thiserror::Error;
 
 /// A word NAME=FILE: the name of a disk, and the file that is its image.
 #[derive(Clone, Copy, Default)]
@@ -79,18 +81,40 @@ pub fn image_of(word: &str) -> Option<ImageArg<'_>>
     }
 }
 
-/// The images that words name, if each word names one.
-fn images_of(words: &[String]) -> Option<ArrayVec<ImageArg<'_>, MAX_DISKS>>
-    requires { length words.now ≤ MAX_DISKS }
-    ensures each { IfSome result (λ images. AllByRecursion IsImageWord (words_of images.items)) }
-    ensures found { IfSome result (λ images. texts words.now ≡ map spelled (words_of images.items)) }
-    ensures none { IfNone result ((ws : List ImageWord) → AllByRecursion IsImageWord ws → texts words.now ≡ map spelled ws → ⊥) }
-{
-    let mut images = ArrayVec::new();
-    for word in words {
-        images.push(image_of(word.as_str())?);
+/// Why words give no images to open.
+#[derive(Clone, Copy, Debug, PartialEq, Eq, Error)]
+pub enum WordsFault {
+    #[error("out of memory")]
+    Memory,
+    #[error("the words are not in the grammar")]
+    Words,
+    #[error("more images are named than a command opens")]
+    Images,
+}
+
+impl<T: Drop> From<AllocFailed<T>> for WordsFault {
+    ghost from_gives = { λ _ fault. fault ≡ faults.Memory };
+
+    fn from(_: AllocFailed<T>) -> WordsFault {
+        WordsFault::Memory
     }
-    Some(images)
+}
+
+/// The images that words name, if each word names one.
+fn images_of(alloc: Global, words: &[String]) -> Result<Vec<ImageArg<'_>>, WordsFault>
+    ensures each { IfOk result (λ images. AllByRecursion IsImageWord (words_of images.items)) }
+    ensures found { IfOk result (λ images. texts words.now ≡ map spelled (words_of images.items)) }
+    ensures refused { result ≡ Err WordsFault.Words → (ws : List ImageWord) → AllByRecursion IsImageWord ws → texts words.now ≡ map spelled ws → ⊥ }
+    ensures many { result ≢ Err WordsFault.Images }
+{
+    let mut images = Vec::new(alloc);
+    for word in words {
+        let Some(image) = image_of(word.as_str()) else {
+            return Err(WordsFault::Words);
+        };
+        images.push(image)?;
+    }
+    Ok(images)
 }
 
 fn is_apart(image: &ImageArg<'_>, other: &ImageArg<'_>) -> bool
@@ -105,13 +129,25 @@ fn is_apart_from_all(image: &ImageArg<'_>, others: &[ImageArg<'_>]) -> bool
     others.iter().all(|other| is_apart(image, other))
 }
 
-fn are_apart(images: &[ImageArg<'_>]) -> bool
-    ensures { result ≡ are_distinct (words_of images.now) }
+/// Whether the first image is apart from all behind it.
+fn is_first_apart(images: &[ImageArg<'_>]) -> bool
+    ensures { are_distinct (words_of images.now) ≡ (result && are_distinct (words_of (drop 1 images.now))) }
 {
     match images.split_first() {
         None => true,
-        Some((image, others)) => is_apart_from_all(image, others) && are_apart(others),
+        Some((image, others)) => is_apart_from_all(image, others),
     }
+}
+
+fn are_apart(images: &[ImageArg<'_>]) -> bool
+    ensures { result ≡ are_distinct (words_of images.now) }
+{
+    for i in 0..images.len() {
+        if !is_first_apart(&images[i..]) {
+            return false;
+        }
+    }
+    true
 }
 
 fn is_assemble(word: &str) -> bool
@@ -120,19 +156,37 @@ fn is_assemble(word: &str) -> bool
     word == "assemble"
 }
 
-/// The images of the command `assemble NAME=FILE..`, if the words are in the grammar.
-pub fn parse(words: &[String]) -> Option<ArrayVec<ImageArg<'_>, MAX_DISKS>>
-    ensures found { IfSome result (λ images. IsAssemble (texts words.now) (words_of images.items)) }
+/// The words that name images of the command `assemble NAME=FILE..`.
+fn image_words(words: &[String]) -> Option<&[String]>
+    ensures some { IfSome result (λ rest. (texts words.now ≡ assemble_word ∷ texts rest.now) × (1 ≤ length rest.now)) }
     ensures none { IfNone result (IsCommand (texts words.now) → ⊥) }
 {
     let (first, rest) = words.split_first()?;
-    if !is_assemble(first.as_str()) || rest.is_empty() || rest.len() > MAX_DISKS {
-        return None;
-    }
-    let images = images_of(rest)?;
-    if are_apart(images.as_slice()) {
-        Some(images)
+    if is_assemble(first.as_str()) && !rest.is_empty() {
+        Some(rest)
     } else {
         None
     }
+}
+
+/// The images of the command `assemble NAME=FILE..`. The words come before the limit of images.
+pub fn parse(alloc: Global, words: &[String]) -> Result<Vec<ImageArg<'_>>, WordsFault>
+    ensures found { IfOk result (λ images. IsAssemble (texts words.now) (words_of images.items)) }
+    ensures few { IfOk result (λ images. length images.items ≤ MAX_DISKS) }
+    ensures within { IfOk result (λ images. IsPastLimit (texts words.now) → ⊥) }
+    ensures refused { result ≡ Err WordsFault.Words → IsCommand (texts words.now) → ⊥ }
+    ensures past { result ≡ Err WordsFault.Images → IsPastLimit (texts words.now) }
+    ensures past_alone { result ≡ Err WordsFault.Images → IsWithinLimit (texts words.now) → ⊥ }
+{
+    let Some(named) = image_words(words) else {
+        return Err(WordsFault::Words);
+    };
+    let images = images_of(alloc, named)?;
+    if !are_apart(images.as_slice()) {
+        return Err(WordsFault::Words);
+    }
+    if images.len() > MAX_DISKS {
+        return Err(WordsFault::Images);
+    }
+    Ok(images)
 }

@@ -1,13 +1,15 @@
-//! The program: it hands the words of its command line to the top call, over files and standard output, and ends with
-//! the status that is answered.
+//! The program: it hands the words of its command line to the top call, over files, standard input and standard output,
+//! and ends with the status that is answered.
 #![tactic(auto)]
 
 mod shelf;
 mod sink;
+mod source;
 
 use image_run::{Status, end_without_memory, image_main};
 use shelf::FileShelf;
 use sink::OutSink;
+use source::InSource;
 use std::alloc::AllocError;
 use std::io::ErrorKind;
 use std::process::ExitCode;
@@ -27,9 +29,10 @@ fn words(rt: &(impl Env + AllocGlobal)) -> Result<Vec<String>, AllocError> {
 fn main(rt: HostRuntime) -> ExitCode {
     let alloc = rt.alloc();
     let mut shelf = FileShelf::new(alloc, &rt);
+    let mut source = InSource::new(rt.reader());
     let mut sink = OutSink::new(io::writer(&rt));
     let Status(number) = match words(&rt) {
-        Ok(words) => image_main(alloc, words.as_slice(), &mut shelf, &mut sink),
+        Ok(words) => image_main(alloc, words.as_slice(), &mut shelf, &mut source, &mut sink),
         Err(AllocError) => end_without_memory(&mut sink),
     };
     ExitCode::from(number)
@@ -38,10 +41,10 @@ fn main(rt: HostRuntime) -> ExitCode {
 #[cfg(test)]
 mod tests {
     use super::*;
-    use image_run::Sink;
+    use image_run::{Sink, SourceFault, read_all};
     use std::fs;
     use std::fs::File;
-    use std::io::Write;
+    use std::io::{Read, Write};
     use std::os::unix::fs::FileExt;
     use std::test::Fail;
 
@@ -79,7 +82,8 @@ mod tests {
             all.push(String::from_str(alloc, word)?)?;
         }
         let mut shelf = FileShelf::new(alloc, rt);
-        let Status(number) = image_main(alloc, all.as_slice(), &mut shelf, sink);
+        let mut source = InSource::new(io::empty());
+        let Status(number) = image_main(alloc, all.as_slice(), &mut shelf, &mut source, sink);
         Ok(number)
     }
 
@@ -95,6 +99,33 @@ mod tests {
         fn flush(&mut self) -> io::Result<()> {
             Err(io::Error::from(ErrorKind::StorageFull))
         }
+    }
+
+    /// A reader that gives nothing, and doesn't end.
+    #[derive(Drop)]
+    struct Unread;
+
+    impl Read for Unread {
+        fn read(&mut self, _into: &mut [u8]) -> io::Result<usize> {
+            Err(io::Error::from(ErrorKind::IsADirectory))
+        }
+    }
+
+    #[test]
+    fn input_is_read_to_its_end(rt: HostRuntime) -> Result<(), Fail> {
+        let alloc = rt.alloc();
+        let script = b"client 0 read 0 7\n";
+        let mut input = InSource::new(script.as_slice());
+        match read_all(alloc, &mut input) {
+            Ok(bytes) => assert_eq!(rt; bytes.as_slice(), script.as_slice()),
+            Err(fault) => assert_eq!(rt; Some(fault), None),
+        }
+        let mut input = InSource::new(Unread);
+        assert_eq!(rt;
+            read_all(alloc, &mut input).err(),
+            Some(SourceFault::Failed)
+        );
+        Ok(())
     }
 
     #[test]
