@@ -1,0 +1,4 @@
+pub mod Going
+pub mod Same
+pub mod Monitors
+pub mod Asking

@@ -1,0 +1,54 @@
+-- A run of the machine that leads to what a stage is. Source: this project's own.
+use Rattle.std.specs.Prelude.{◌≡◌, ℕ, ◌+◌, ◌≤◌, ◌<◌, Bool, true, false, List, [], ◌∷◌, ◌++◌, length, slice_index, Option, Some, None, ⊤}
+use Rattle.std.specs.List.{AllByRecursion}
+use Rattle.imsm_base.specs.declared.bounds.TheConstants.{METADATA_SECTORS}
+use Rattle.device_log.specs.Log.{Call, What, Read, Write, Sync}
+use Rattle.member_bank.specs.Told.{Keeps, Logs}
+use Rattle.array_model.specs.declared.journal.Entry.{Entry}
+use Rattle.array_model.specs.Blocks.{Laid}
+use Rattle.array_model.specs.Start.{disks_of}
+use Rattle.stage_machine.specs.Setting.{Setting, has}
+use Rattle.stage_machine.specs.Machine.{Control, Action, Out, World, Reached, turned, call_of, calls_after}
+use Rattle.control_state.specs.declared.plan.Plan.{Plan}
+use Rattle.control_state.specs.Seen.{plan_setting, numbers}
+
+-- what the machine takes as given: what the plan says, the newest block, and the sizes of the disks
+abbrev pub run_setting : Plan → Laid → List ℕ → Setting
+run_setting p newest sizes = record (plan_setting p) {
+  start = record (plan_setting p).start { newest = newest; disks = disks_of [] sizes [] };
+}
+
+-- the disks of the plan are in a bank of these sizes, and its rows are on its members
+pub record FitsBank (p : Plan) (sizes : List ℕ) : Type 0 where
+  pub some : 0 < p.size
+  pub targets : (d : ℕ) → has d (numbers p.targets.items) ≡ true → (d < length sizes) × (METADATA_SECTORS ≤ slice_index sizes d)
+  pub members : (d : ℕ) → has d (numbers p.members.items) ≡ true → (d < length sizes) × (p.pba + p.size ≤ slice_index sizes d)
+
+-- what a bank tells after the call of a turn, if it makes one
+abbrev pub Tells : Option (List Call) → Option Call → Option (List Call) → Type 0
+Tells told None now = Keeps told now
+Tells told (Some call) now = Logs told now call
+
+-- the action's turn, at this control state, leaves and enters this, and makes these calls
+pub record Makes (S : Setting) (told : Option (List Call)) (c : Control) (calls : ℕ) (a : Action) (out : Out) (counted : ℕ) (now : Option (List Call)) : Type 0 where
+  pub is : out ≡ turned S c a
+  pub count : counted ≡ calls_after calls (call_of S c a)
+  pub logs : Tells told (call_of S c a) now
+
+abbrev pub IsReading : What → Type 0
+IsReading (Read place) = ⊤
+IsReading (Write place sectors stored) = ⊥
+IsReading Sync = ⊥
+
+-- a log that is told has the calls before the run, and then those of the run
+abbrev pub Agrees : Option (List Call) → List Call → List Call → Type 0
+Agrees told before log = (all : List Call) → told ≡ Some all → all ≡ before ++ log
+
+-- a run of the machine leads to this control state, count of calls and journal, and its calls are those of the log,
+-- where it is told, behind reads
+pub record Ran (S : Setting) (c : Control) (calls : ℕ) (journal : List Entry) (told : Option (List Call)) : Type 0 where
+  pub before : List Call
+  pub reads : AllByRecursion (λ call. IsReading call.what) before
+  pub log : List Call
+  pub run : Reached S (record { control = c; calls = calls; log = log; journal = journal })
+  pub agrees : Agrees told before log

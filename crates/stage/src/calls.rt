@@ -1,0 +1,55 @@
+//! The device calls of a turn.
+ghost use Rattle.std.specs.Prelude.{◌≡◌, ◌+◌, ◌^◌, ◌≤◌, ◌<◌, [], ◌∷◌, length, slice_index, is_ok, ℕ, if◌then◌else◌};
+ghost use Rattle.imsm_base.specs.declared.bounds.TheConstants.{METADATA_SECTORS};
+ghost use Rattle.imsm_base.specs.Whole.{anchor_place};
+ghost use Rattle.device_log.specs.Log.{Call, Read, Write};
+ghost use Rattle.member_bank.specs.Told.{Logs, LogsWrite};
+ghost use Rattle.stage_machine.specs.Jobs.{row_at, value_at};
+ghost use Rattle.control_state.specs.Book.{laid_of};
+ghost use Rattle.control_state.specs.Seen.{plan_setting};
+ghost use Rattle.stage.specs.Asked.{asked_of};
+
+use control_state::{Ask, Book, Plan, Step};
+use imsm_base::{DiskNo, SECTOR_BYTES, Sector};
+use member_bank::{Bank, Failed};
+
+/// Makes a round's call: whether it went through.
+pub fn round_call<B: Bank>(bank: &mut B, next: &Book, ask: Ask) -> bool
+    requires disk { ask.disk.0 < length (B.sizes bank.old) }
+    requires room { METADATA_SECTORS ≤ slice_index (B.sizes bank.old) ask.disk.0 }
+    ensures logs { (stored : ℕ) × Logs (B.log bank.old) (B.log bank.new) (record { disk = ask.disk.0; what = asked_of (slice_index (B.sizes bank.old) ask.disk.0) (laid_of next.now.block.bytes) ask.step (if result then 1 else stored); went = result }) }
+    ensures sizes { B.sizes bank.new ≡ B.sizes bank.old }
+{
+    match ask.step {
+        Step::Anchor => {
+            let place = bank.sectors(ask.disk) - 2;
+            bank.write(ask.disk, place, &[next.anchor()]).is_ok()
+        }
+        Step::Sync => bank.sync(ask.disk).is_ok(),
+    }
+}
+
+/// Reads the row of an operation on a member.
+pub fn read_row<B: Bank>(bank: &mut B, plan: &Plan, op: u64, disk: DiskNo) -> Result<Sector, Failed>
+    requires disk { disk.0 < length (B.sizes bank.old) }
+    requires room { plan.now.pba + row_at (plan_setting plan.now) op < slice_index (B.sizes bank.old) disk.0 }
+    requires fits { slice_index (B.sizes bank.old) disk.0 < 2 ^ 64 }
+    ensures logs { Logs (B.log bank.old) (B.log bank.new) (record { disk = disk.0; what = Read (plan.now.pba + row_at (plan_setting plan.now) op); went = is_ok result }) }
+    ensures sizes { B.sizes bank.new ≡ B.sizes bank.old }
+{
+    let mut into = Sector([0; SECTOR_BYTES]);
+    bank.read(disk, plan.pba + plan.row(op), &mut into)?;
+    Ok(into)
+}
+
+/// Writes the row of an operation on a member: whether it went through.
+pub fn write_row<B: Bank>(bank: &mut B, plan: &Plan, op: u64, disk: DiskNo) -> bool
+    requires disk { disk.0 < length (B.sizes bank.old) }
+    requires room { plan.now.pba + row_at (plan_setting plan.now) op < slice_index (B.sizes bank.old) disk.0 }
+    requires fits { slice_index (B.sizes bank.old) disk.0 < 2 ^ 64 }
+    ensures logs { (stored : ℕ) × Logs (B.log bank.old) (B.log bank.new) (record { disk = disk.0; what = Write (plan.now.pba + row_at (plan_setting plan.now) op) (value_at (plan_setting plan.now) op ∷ []) (if result then 1 else stored); went = result }) }
+    ensures sizes { B.sizes bank.new ≡ B.sizes bank.old }
+{
+    bank.write(disk, plan.pba + plan.row(op), &[plan.value(op)])
+        .is_ok()
+}

@@ -1,0 +1,99 @@
+//! What a client does in its turn, but for the entries.
+ghost use Rattle.std.specs.Prelude.{◌≡◌, ◌+◌, ◌^◌, ◌<◌, ℕ, None, []};
+ghost use Rattle.imsm_base.specs.declared.units.Sector.{Sector as SectorBytes};
+ghost use Rattle.array_model.specs.Blocks.{Laid};
+ghost use Rattle.stage_machine.specs.Jobs.{client_at, Busy};
+ghost use Rattle.stage_machine.specs.Rounds.{Ended};
+ghost use Rattle.stage_machine.specs.Machine.{Asks, put_client, dropped};
+ghost use Rattle.control_state.specs.declared.plan.Plan.{Plan as PlanSeen};
+ghost use Rattle.control_state.specs.Seen.{numbers, step_of};
+ghost use Rattle.control_state.specs.Controls.{control_of, out_of};
+ghost use Rattle.stage.specs.Runs.{run_setting, FitsBank, Makes};
+
+use crate::calls::{read_row, write_row};
+use control_state::{Control, Events, JobStep, Need, Plan, Work};
+use imsm_base::DiskNo;
+use member_bank::{Bank, Failed};
+
+/// A client's job stands at its next step.
+fn step_to(control: &mut Control, k: u8, op: u64, step: JobStep) -> Events
+    requires { k < 16 }
+    ensures { (p : PlanSeen) → out_of p control.new result ≡ record { next = put_client (control_of p control.old) k (client_at (control_of p control.old).clients k).left (Busy op (step_of (numbers p.members.items) step)); events = [] } }
+{
+    control.settle(k, Some(Work { op, step }));
+    Events::Zero
+}
+
+/// A disk's call failed.
+fn drop_disk(control: &mut Control, disk: DiskNo) -> Events
+    ensures { (p : PlanSeen) → out_of p control.new result ≡ dropped disk.0 (control_of p control.old) }
+{
+    control.fail(disk);
+    Events::Zero
+}
+
+/// A job's turn: the next call of its row, its answer, or nothing where something holds it.
+fn meet<B: Bank>(
+    bank: &mut B,
+    control: &mut Control,
+    plan: &Plan,
+    calls: &mut u64,
+    k: u8,
+    work: Work,
+) -> Events
+    requires client { k < 16 }
+    requires live { control.old.failed ≡ None }
+    requires calls { calls.old + 1 < 2 ^ 64 }
+    requires fits { FitsBank plan.now (B.sizes bank.old) }
+    requires job { (client_at (control_of plan.now control.old).clients k).job ≡ Busy work.op (step_of (numbers plan.now.members.items) work.step) }
+    ensures made { (newest : Laid) → (x : Ended) × (got : SectorBytes) × Makes (run_setting plan.now newest (B.sizes bank.old)) (B.log bank.old) (control_of plan.now control.old) calls.old (Asks k x got) (out_of plan.now control.new result) calls.new (B.log bank.new) }
+    ensures sizes { B.sizes bank.new ≡ B.sizes bank.old }
+{
+    match control.need(plan, k, work) {
+        Need::Nothing => Events::Zero,
+        Need::Answer(answer) => control.answer(k, work.op, answer),
+        Need::Read(disk) => {
+            *calls += 1;
+            match read_row(bank, plan, work.op, disk) {
+                Ok(got) => step_to(control, k, work.op, JobStep::Got(got)),
+                Err(Failed) => drop_disk(control, disk),
+            }
+        }
+        Need::Write(disk, rest) => {
+            *calls += 1;
+            if write_row(bank, plan, work.op, disk) {
+                step_to(control, k, work.op, plan.after_write(rest))
+            } else {
+                drop_disk(control, disk)
+            }
+        }
+        Need::Sync(disk, rest) => {
+            *calls += 1;
+            match bank.sync(disk) {
+                Ok(()) => step_to(control, k, work.op, plan.after_sync(rest)),
+                Err(Failed) => drop_disk(control, disk),
+            }
+        }
+    }
+}
+
+/// A client's turn: it submits its next operation, or its job goes on.
+pub fn client_part<B: Bank>(
+    bank: &mut B,
+    control: &mut Control,
+    plan: &Plan,
+    calls: &mut u64,
+    k: u8,
+) -> Events
+    requires client { k < 16 }
+    requires live { control.old.failed ≡ None }
+    requires calls { calls.old + 1 < 2 ^ 64 }
+    requires fits { FitsBank plan.now (B.sizes bank.old) }
+    ensures made { (newest : Laid) → (x : Ended) × (got : SectorBytes) × Makes (run_setting plan.now newest (B.sizes bank.old)) (B.log bank.old) (control_of plan.now control.old) calls.old (Asks k x got) (out_of plan.now control.new result) calls.new (B.log bank.new) }
+    ensures sizes { B.sizes bank.new ≡ B.sizes bank.old }
+{
+    match control.work(k) {
+        None => control.submit(plan, k),
+        Some(work) => meet(bank, control, plan, calls, k, work),
+    }
+}
