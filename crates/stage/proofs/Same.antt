@@ -45,6 +45,10 @@ module _ (p : Plan) (newest : Laid) (sizes : List ℕ) where
       job NoJob = refl
       job (Busy i step) = refl
 
+  pub after_write_same : (left : List ℕ) → after_write P left ≡ after_write S left
+  after_write_same [] = refl
+  after_write_same (d ∷ ds) = refl
+
   first_same : (kind : Option OpKind) → first_need P kind ≡ first_need S kind
   first_same None = refl
   first_same (Some (OpWrite v s value)) = refl

@@ -1,5 +1,5 @@
 -- A run of the machine that leads to what a stage is. Source: this project's own.
-use Rattle.std.specs.Prelude.{◌≡◌, ℕ, ◌+◌, ◌≤◌, ◌<◌, Bool, true, false, List, [], ◌∷◌, ◌++◌, length, slice_index, Option, Some, None, ⊤}
+use Rattle.std.specs.Prelude.{◌≡◌, ℕ, ◌+◌, ◌^◌, ◌≤◌, ◌<◌, Bool, true, false, List, [], ◌∷◌, ◌++◌, length, slice_index, Option, Some, None, ⊤}
 use Rattle.std.specs.List.{AllByRecursion}
 use Rattle.imsm_base.specs.declared.bounds.TheConstants.{METADATA_SECTORS}
 use Rattle.device_log.specs.Log.{Call, What, Read, Write, Sync}
@@ -21,6 +21,7 @@ run_setting p newest sizes = record (plan_setting p) {
 -- the disks of the plan are in a bank of these sizes, and its rows are on its members
 pub record FitsBank (p : Plan) (sizes : List ℕ) : Type 0 where
   pub some : 0 < p.size
+  pub below : p.pba + p.size < 2 ^ 64
   pub targets : (d : ℕ) → has d (numbers p.targets.items) ≡ true → (d < length sizes) × (METADATA_SECTORS ≤ slice_index sizes d)
   pub members : (d : ℕ) → has d (numbers p.members.items) ≡ true → (d < length sizes) × (p.pba + p.size ≤ slice_index sizes d)
 

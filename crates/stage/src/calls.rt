@@ -33,7 +33,7 @@ pub fn round_call<B: Bank>(bank: &mut B, next: &Book, ask: Ask) -> bool
 pub fn read_row<B: Bank>(bank: &mut B, plan: &Plan, op: u64, disk: DiskNo) -> Result<Sector, Failed>
     requires disk { disk.0 < length (B.sizes bank.old) }
     requires room { plan.now.pba + row_at (plan_setting plan.now) op < slice_index (B.sizes bank.old) disk.0 }
-    requires fits { slice_index (B.sizes bank.old) disk.0 < 2 ^ 64 }
+    requires fits { plan.now.pba + row_at (plan_setting plan.now) op < 2 ^ 64 }
     ensures logs { Logs (B.log bank.old) (B.log bank.new) (record { disk = disk.0; what = Read (plan.now.pba + row_at (plan_setting plan.now) op); went = is_ok result }) }
     ensures sizes { B.sizes bank.new ≡ B.sizes bank.old }
 {
@@ -46,7 +46,7 @@ pub fn read_row<B: Bank>(bank: &mut B, plan: &Plan, op: u64, disk: DiskNo) -> Re
 pub fn write_row<B: Bank>(bank: &mut B, plan: &Plan, op: u64, disk: DiskNo) -> bool
     requires disk { disk.0 < length (B.sizes bank.old) }
     requires room { plan.now.pba + row_at (plan_setting plan.now) op < slice_index (B.sizes bank.old) disk.0 }
-    requires fits { slice_index (B.sizes bank.old) disk.0 < 2 ^ 64 }
+    requires fits { plan.now.pba + row_at (plan_setting plan.now) op < 2 ^ 64 }
     ensures logs { (stored : ℕ) × Logs (B.log bank.old) (B.log bank.new) (record { disk = disk.0; what = Write (plan.now.pba + row_at (plan_setting plan.now) op) (value_at (plan_setting plan.now) op ∷ []) (if result then 1 else stored); went = result }) }
     ensures sizes { B.sizes bank.new ≡ B.sizes bank.old }
 {
