@@ -1,5 +1,5 @@
 -- A client's turn in the code is the machine's.
-use Rattle.std.proofs.Common.{◌≡◌, ℕ, zero, suc, ◌+◌, ◌<◌, ◌==◌, ◌||◌, Bool, true, false, List, [], ◌∷◌, drop, Option, Some, None, nat_lt, refl, ap, sym, subst, ◌∙◌, arith}
+use Rattle.std.proofs.Common.{◌≡◌, ℕ, ◌+◌, ◌<◌, Bool, true, false, List, [], ◌∷◌, drop, Option, Some, None, nat_lt, refl, ap, sym, ◌∙◌, arith}
 use Rattle.std.proofs.lemmas.Bool.Decides.{nat_tests}
 use Rattle.imsm_base.specs.declared.units.Sector.{Sector}
 use Rattle.device_log.specs.Log.{Call}
@@ -9,7 +9,7 @@ use Rattle.array_model.specs.declared.script.OpKind.TheVariants.{Write as OpWrit
 use Rattle.array_model.specs.Script.{kind_at}
 use Rattle.array_model.specs.Blocks.{Laid}
 use Rattle.array_model.specs.Placement.{place_of}
-use Rattle.stage_machine.specs.Setting.{Setting, has}
+use Rattle.stage_machine.specs.Setting.{has}
 use Rattle.stage_machine.specs.Rounds.{Ended}
 use Rattle.stage_machine.specs.Jobs as jobs
 use Rattle.stage_machine.specs.Jobs.{client_at, Busy, NoJob, NoNeed, Reads, Writes, Syncs, Answers, row_at, row_in, sector_in, need_call}
@@ -75,13 +75,13 @@ row_below p i some = at (sector_in (kind_at p.ops.items i))
     by : (s : ℕ) (b : Bool) → nat_lt s p.size ≡ b → row_in (place_of (shape_of p) s) < p.size
     by s true is = rw is (below s p.size is)
     by s false is = rw is some
+
     at : (s : ℕ) → row_in (place_of (shape_of p) s) < p.size
     at s = by s (nat_lt s p.size) refl
 
 -- TURNS
 
 module _ (p : Plan) (newest : Laid) (sizes : List ℕ) where
-
   -- the job of the client meets what it needs
   met : (c : Control) (k : ℕ) (x : Ended) (got : Sector) (i : ℕ) (step : jobs.JobStep) (n : jobs.Need) → (client_at c.clients k).job ≡ Busy i step → n ≡ need_now (plan_setting p) c k i step
       → meet (run_setting p newest sizes) c k x got (client_at c.clients k).left i n ≡ turn (run_setting p newest sizes) c (Asks k x got)

@@ -1,9 +1,9 @@
 -- One turn of the stage is one turn of the machine.
-use Rattle.std.proofs.Common.{◌≡◌, ℕ, ◌+◌, List, [], ◌∷◌, ◌++◌, Option, Some, None, refl, ap, sym, subst, ◌∙◌, append_assoc}
+use Rattle.std.proofs.Common.{◌≡◌, ℕ, List, [], ◌∷◌, ◌++◌, Option, Some, None, refl, ap, sym, subst, ◌∙◌, append_assoc}
 use Rattle.device_log.specs.Log.{Call}
 use Rattle.array_model.specs.declared.journal.Entry.{Entry}
 use Rattle.stage_machine.specs.Setting.{Setting}
-use Rattle.stage_machine.specs.Machine.{Control, Action, Out, World, Reached, goes, turned, call_of, calls_after, log_after, stamped, happens}
+use Rattle.stage_machine.specs.Machine.{Control, Action, Out, World, Reached, goes, call_of, log_after, stamped, happens}
 use Rattle.stage.specs.Runs.{Tells, Makes, Agrees, Ran}
 
 agrees_after : (told : Option (List Call)) (before log : List Call) (call : Option Call) (now : Option (List Call)) → Agrees told before log → Tells told call now → Agrees now before (log_after log call)

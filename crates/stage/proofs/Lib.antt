@@ -2,3 +2,4 @@ pub mod Going
 pub mod Same
 pub mod Monitors
 pub mod Asking
+pub mod Staged

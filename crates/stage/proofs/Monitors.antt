@@ -4,12 +4,12 @@ use Rattle.std.proofs.Math.Bool.{or-true}
 use Rattle.std.proofs.lemmas.Bool.Decides.{nat_tests}
 use Rattle.std.specs.Prelude.{slice_index, if◌then◌else◌}
 use Rattle.device_log.specs.Log.{Call, What}
-use Rattle.member_bank.specs.Told.{Keeps, Logs}
+use Rattle.member_bank.specs.Told.{Logs}
 use Rattle.array_model.specs.Blocks.{Laid}
 use Rattle.stage_machine.specs.Setting.{Setting, has}
 use Rattle.stage_machine.specs.Rounds as rounds
 use Rattle.stage_machine.specs.Rounds.{Ended, round_call, what_of}
-use Rattle.stage_machine.specs.Machine.{Control, Action, Monitors, Out, turn, turned, turned_unless, turn_call, call_of, call_unless, calls_after, monitor_at, put_round, dropped, called}
+use Rattle.stage_machine.specs.Machine.{Control, Action, Monitors, Out, turn, turned, turned_unless, turn_call, call_of, call_unless, calls_after, monitor_at, put_round, dropped}
 use Rattle.control_state.specs.declared.plan.Plan.{Plan}
 use Rattle.control_state.specs.declared.round.Phase.{Phase}
 use Rattle.control_state.specs.declared.round.Phase.TheVariants.{Rest, Going}
@@ -104,7 +104,6 @@ asked_has targets m Rest d step is = absurd (cc is)
 asked_has targets m (Going s at) d step is = asked_by m (step_of s) step at d targets (drop at targets) refl is
 
 module _ (p : Plan) (newest : Laid) (sizes : List ℕ) where
-
   went_by : (c : Control) (stored : ℕ) (phase : rounds.Phase) (d : ℕ) (step : rounds.Step) → next_ask phase ≡ Some (d, step)
       → put_round c (gone (plan_setting p) c.round phase) ≡ monitor_at (run_setting p newest sizes) c (record { went = true; stored = stored }) phase
   went_by c stored rounds.Rest d step is = absurd (cc is)
@@ -139,7 +138,7 @@ module _ (p : Plan) (newest : Laid) (sizes : List ℕ) where
   -- the call that a round makes, by what the code asked
   pub call_made : (c : Control) (targets : List ℕ) (m : Laid) (phase : Phase) (ask : Option Ask) (a : Ask) (went : Bool) (stored : ℕ) → c.round.phase ≡ phase_of targets m phase → ask_of ask ≡ next_ask c.round.phase → ask ≡ Some a
       → turn_call (run_setting p newest sizes) c (Monitors (record { went = went; stored = stored }))
-        ≡ Some (record { disk = a.disk.0; what = asked_of (slice_index sizes a.disk.0) m a.step (if went then 1 else stored); went = went })
+      ≡ Some (record { disk = a.disk.0; what = asked_of (slice_index sizes a.disk.0) m a.step (if went then 1 else stored); went = went })
   call_made c targets m phase ask a went stored at is some =
       let asked : next_ask (phase_of targets m phase) ≡ Some (a.disk.0, step_of a.step) = sym (ap next_ask at) ∙ sym is ∙ ap ask_of some in
       ap (round_call (run_setting p newest sizes) (record { went = went; stored = stored })) at

@@ -1,22 +1,20 @@
 -- What the machine does with two settings that have the same operations, members and rows, and the same edit.
-use Rattle.std.proofs.Common.{◌≡◌, ℕ, ◌+◌, ◌==◌, ◌&&◌, ◌||◌, not, Bool, true, false, List, [], ◌∷◌, Option, Some, None, refl, ap, sym, ◌∙◌}
-use Rattle.imsm_base.specs.declared.units.Sector.{Sector}
+use Rattle.std.proofs.Common.{◌≡◌, ℕ, ◌+◌, ◌==◌, ◌&&◌, ◌||◌, not, Bool, true, false, List, [], ◌∷◌, Option, Some, None, refl, ap, ◌∙◌}
 use Rattle.array_model.specs.declared.script.OpKind.{OpKind}
 use Rattle.array_model.specs.declared.script.OpKind.TheVariants.{Write as OpWrite, Read as OpRead, Whole as OpWhole}
 use Rattle.array_model.specs.Blocks.{Laid}
 use Rattle.array_model.specs.Script.{kind_at}
 use Rattle.stage_machine.specs.Setting.{Setting}
-use Rattle.stage_machine.specs.Rounds.{Round, Phase, Rest, Going, Step, AtAnchor, AtSync, Ended, to_next, step_on, begin}
+use Rattle.stage_machine.specs.Rounds.{Round, Phase, Rest, Going, Step, AtAnchor, AtSync, Ended, to_next, step_on}
 use Rattle.stage_machine.specs.States.{State, IsReadonly, IsReadAuto, IsClean, IsPending, IsActive, IsIdle, Move, Nothing, Starts, Makes, decide, is_readonly, is_pending_state}
-use Rattle.stage_machine.specs.Jobs.{JobStep, Waiting, Writing, Syncing, Written, Got, Job, NoJob, Busy, Client, client_at, holds, holds_by, locked_from, is_locked, is_writing, any_writing, is_write, row_at, Need, NoNeed, Reads, Writes, Syncs, Answers, need_of, first_need, need_call, after_write}
-use Rattle.stage_machine.specs.Machine.{Control, Action, Monitors, Asks, Quiets, Out, turn, turned, monitor_at, moved, client_by, meet, submit_next, submit_unless, submit_kind, need_now, need_unless, is_held, quieted, quiet_if}
+use Rattle.stage_machine.specs.Jobs.{JobStep, Waiting, Writing, Syncing, Written, Got, Job, NoJob, Busy, Client, holds, locked_from, is_writing, any_writing, is_write, row_at, need_of, first_need, after_write}
+use Rattle.stage_machine.specs.Machine.{Control, monitor_at, moved, submit_next, submit_unless, submit_kind, need_now, need_unless, is_held, quieted, quiet_if}
 use Rattle.control_state.specs.declared.plan.Plan.{Plan}
 use Rattle.control_state.specs.Rounds.{next_ask}
 use Rattle.control_state.specs.Seen.{plan_setting}
 use Rattle.stage.specs.Runs.{run_setting}
 
 module _ (p : Plan) (newest : Laid) (sizes : List ℕ) where
-
   abbrev pub P : Setting
   P = plan_setting p
 

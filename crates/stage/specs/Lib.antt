@@ -1,2 +1,3 @@
 pub mod Runs
 pub mod Asked
+pub mod Stages

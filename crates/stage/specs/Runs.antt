@@ -1,5 +1,5 @@
 -- A run of the machine that leads to what a stage is. Source: this project's own.
-use Rattle.std.specs.Prelude.{◌≡◌, ℕ, ◌+◌, ◌^◌, ◌≤◌, ◌<◌, Bool, true, false, List, [], ◌∷◌, ◌++◌, length, slice_index, Option, Some, None, ⊤}
+use Rattle.std.specs.Prelude.{◌≡◌, ℕ, ◌+◌, ◌^◌, ◌≤◌, ◌<◌, true, List, [], ◌++◌, length, slice_index, Option, Some, None, ⊤}
 use Rattle.std.specs.List.{AllByRecursion}
 use Rattle.imsm_base.specs.declared.bounds.TheConstants.{METADATA_SECTORS}
 use Rattle.device_log.specs.Log.{Call, What, Read, Write, Sync}
@@ -8,7 +8,7 @@ use Rattle.array_model.specs.declared.journal.Entry.{Entry}
 use Rattle.array_model.specs.Blocks.{Laid}
 use Rattle.array_model.specs.Start.{disks_of}
 use Rattle.stage_machine.specs.Setting.{Setting, has}
-use Rattle.stage_machine.specs.Machine.{Control, Action, Out, World, Reached, turned, call_of, calls_after}
+use Rattle.stage_machine.specs.Machine.{Control, Action, Out, Reached, turned, call_of, calls_after}
 use Rattle.control_state.specs.declared.plan.Plan.{Plan}
 use Rattle.control_state.specs.Seen.{plan_setting, numbers}
 

@@ -4,6 +4,8 @@
 mod calls;
 mod client;
 mod monitor;
+mod stage;
+mod turned;
 
-pub use client::client_part;
-pub use monitor::monitor_part;
+pub use stage::{MAX_CALLS, Stage};
+pub use turned::Turned;

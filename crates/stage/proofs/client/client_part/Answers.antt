@@ -7,10 +7,9 @@ use Rattle.stage.proofs.client.client_part.Goals as goal
 
 pub returns-in-None-clause-made : goal.returns-in-None-clause-made
 returns-in-None-clause-made g c = λ newest.
-    let p = c.args.plan.now in
-    (
+    let p = c.args.plan.now in (
       record { went = true; stored = 0 },
       sector_of 0,
       submitted p newest (g.B.Bank.sizes c.args.bank.now) (g.B.Bank.log c.args.bank.now) (control_of p c.args.control.now) c.args.calls.now c.args.k (record { went = true; stored = 0 }) (sector_of 0)
-      (out_of p c.submit.new.self c.submit.result) (ap failed_of c.requires.live) (sym (c.work.ensures p) ∙ ap (job_of (numbers p.members.items)) c.in-None.is) c.submit.ensures,
+          (out_of p c.submit.new.self c.submit.result) (ap failed_of c.requires.live) (sym (c.work.ensures p) ∙ ap (job_of (numbers p.members.items)) c.in-None.is) c.submit.ensures,
     )

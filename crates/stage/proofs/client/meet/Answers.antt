@@ -1,6 +1,6 @@
-use Rattle.std.proofs.Common.{◌≡◌, ◌+◌, ◌<◌, ◌≤◌, Bool, true, false, List, ℕ, [], ◌∷◌, drop, refl, sym, ap, subst, ◌∙◌, arith}
-use Rattle.std.specs.Prelude.{is_ok, slice_index, if◌then◌else◌}
-use Rattle.device_log.specs.Log.{Call, Read, Write, Sync}
+use Rattle.std.proofs.Common.{◌+◌, Bool, true, false, [], ◌∷◌, drop, refl, sym, ap, subst, ◌∙◌, arith}
+use Rattle.std.specs.Prelude.{is_ok, if◌then◌else◌}
+use Rattle.device_log.specs.Log.{Read, Write, Sync}
 use Rattle.member_bank.specs.Told.{Logs}
 use Rattle.array_model.specs.Script.{sector_of}
 use Rattle.stage_machine.specs.Jobs as jobs
@@ -52,12 +52,11 @@ returns-in-Nothing-clause-made g c = λ newest.
     let sizes = g.B.Bank.sizes c.args.bank.now in
     let told = g.B.Bank.log c.args.bank.now in
     let C = control_of p c.args.control.now in
-    let members = numbers p.members.items in
-    (
+    let members = numbers p.members.items in (
       record { went = true; stored = 0 },
       sector_of 0,
       met_none p newest sizes told C c.args.calls.now c.args.k (record { went = true; stored = 0 }) (sector_of 0) c.args.work.op (step_of members c.args.work.step) (NoNeed) (out_of p c.args.control.now Zero) (ap failed_of c.requires.live) c.requires.job
-      (sym (ap (need_of (numbers c.args.plan.now.members.items)) c.in-Nothing.is) ∙ c.need.ensures) refl (refl),
+          (sym (ap (need_of (numbers c.args.plan.now.members.items)) c.in-Nothing.is) ∙ c.need.ensures) refl (refl),
     )
 
 pub returns-in-Answer-clause-made : goal.returns-in-Answer-clause-made
@@ -66,12 +65,11 @@ returns-in-Answer-clause-made g c = λ newest.
     let sizes = g.B.Bank.sizes c.args.bank.now in
     let told = g.B.Bank.log c.args.bank.now in
     let C = control_of p c.args.control.now in
-    let members = numbers p.members.items in
-    (
+    let members = numbers p.members.items in (
       record { went = true; stored = 0 },
       sector_of 0,
       met_none p newest sizes told C c.args.calls.now c.args.k (record { went = true; stored = 0 }) (sector_of 0) c.args.work.op (step_of members c.args.work.step) (Answers c.in-Answer.answer) (out_of p c.answer.new.self c.answer.result) (ap failed_of c.requires.live) c.requires.job
-      (sym (ap (need_of (numbers c.args.plan.now.members.items)) c.in-Answer.is) ∙ c.need.ensures) refl (c.answer.ensures p),
+          (sym (ap (need_of (numbers c.args.plan.now.members.items)) c.in-Answer.is) ∙ c.need.ensures) refl (c.answer.ensures p),
     )
 
 pub returns-in-Ok-clause-made : goal.returns-in-Ok-clause-made
@@ -81,13 +79,12 @@ returns-in-Ok-clause-made g c = λ newest.
     let told = g.B.Bank.log c.args.bank.now in
     let C = control_of p c.args.control.now in
     let members = numbers p.members.items in
-    let now = g.B.Bank.log c.read_row.new.bank in
-    (
+    let now = g.B.Bank.log c.read_row.new.bank in (
       record { went = true; stored = 0 },
       c.in-Ok.got,
       met_some p newest sizes told now C c.args.calls.now c.args.k (record { went = true; stored = 0 }) (c.in-Ok.got) c.args.work.op (step_of members c.args.work.step) (Reads c.in-Read.disk.0) (out_of p c.step_to.new.control c.step_to.result) (record { disk = c.in-Read.disk.0; what = Read (p.pba + row_at (plan_setting p) c.args.work.op); went = true }) (ap failed_of c.requires.live) c.requires.job
-      (sym (ap (need_of (numbers c.args.plan.now.members.items)) c.in-Read.is) ∙ c.need.ensures) refl (c.step_to.ensures p)
-      (subst (λ (b : Bool). Logs told now (record { disk = c.in-Read.disk.0; what = Read (p.pba + row_at (plan_setting p) c.args.work.op); went = b })) (ap is_ok c.in-Ok.is) c.read_row.ensures.logs),
+          (sym (ap (need_of (numbers c.args.plan.now.members.items)) c.in-Read.is) ∙ c.need.ensures) refl (c.step_to.ensures p)
+          (subst (λ (b : Bool). Logs told now (record { disk = c.in-Read.disk.0; what = Read (p.pba + row_at (plan_setting p) c.args.work.op); went = b })) (ap is_ok c.in-Ok.is) c.read_row.ensures.logs),
     )
 
 pub returns-in-Err-clause-made : goal.returns-in-Err-clause-made
@@ -97,13 +94,12 @@ returns-in-Err-clause-made g c = λ newest.
     let told = g.B.Bank.log c.args.bank.now in
     let C = control_of p c.args.control.now in
     let members = numbers p.members.items in
-    let now = g.B.Bank.log c.read_row.new.bank in
-    (
+    let now = g.B.Bank.log c.read_row.new.bank in (
       record { went = false; stored = 0 },
       sector_of 0,
       met_some p newest sizes told now C c.args.calls.now c.args.k (record { went = false; stored = 0 }) (sector_of 0) c.args.work.op (step_of members c.args.work.step) (Reads c.in-Read.disk.0) (out_of p c.drop_disk.new.control c.drop_disk.result) (record { disk = c.in-Read.disk.0; what = Read (p.pba + row_at (plan_setting p) c.args.work.op); went = false }) (ap failed_of c.requires.live) c.requires.job
-      (sym (ap (need_of (numbers c.args.plan.now.members.items)) c.in-Read.is) ∙ c.need.ensures) refl (c.drop_disk.ensures p)
-      (subst (λ (b : Bool). Logs told now (record { disk = c.in-Read.disk.0; what = Read (p.pba + row_at (plan_setting p) c.args.work.op); went = b })) (ap is_ok c.in-Err.is) c.read_row.ensures.logs),
+          (sym (ap (need_of (numbers c.args.plan.now.members.items)) c.in-Read.is) ∙ c.need.ensures) refl (c.drop_disk.ensures p)
+          (subst (λ (b : Bool). Logs told now (record { disk = c.in-Read.disk.0; what = Read (p.pba + row_at (plan_setting p) c.args.work.op); went = b })) (ap is_ok c.in-Err.is) c.read_row.ensures.logs),
     )
 
 pub returns-then-write_row-clause-made : goal.returns-then-write_row-clause-made
@@ -113,13 +109,12 @@ returns-then-write_row-clause-made g c = λ newest.
     let told = g.B.Bank.log c.args.bank.now in
     let C = control_of p c.args.control.now in
     let members = numbers p.members.items in
-    let now = g.B.Bank.log c.write_row.new.bank in
-    (
+    let now = g.B.Bank.log c.write_row.new.bank in (
       record { went = true; stored = c.write_row.ensures.logs.0 },
       sector_of 0,
       met_some p newest sizes told now C c.args.calls.now c.args.k (record { went = true; stored = c.write_row.ensures.logs.0 }) (sector_of 0) c.args.work.op (step_of members c.args.work.step) (Writes c.in-Write.disk.0 (drop c.in-Write.rest members)) (out_of p c.step_to-then-write_row.new.control c.step_to-then-write_row.result) (record { disk = c.in-Write.disk.0; what = Write (p.pba + row_at (plan_setting p) c.args.work.op) (value_at (plan_setting p) c.args.work.op ∷ []) (1); went = true }) (ap failed_of c.requires.live) c.requires.job
-      (sym (ap (need_of (numbers c.args.plan.now.members.items)) c.in-Write.is) ∙ c.need.ensures) refl (c.step_to-then-write_row.ensures p ∙ ap (λ (s : jobs.JobStep). record { next = put_client C c.args.k (client_at C.clients c.args.k).left (Busy c.args.work.op s); events = [] }) (c.after_write.ensures ∙ after_write_same p newest sizes (drop c.in-Write.rest members)))
-      (subst (λ (b : Bool). Logs told now (record { disk = c.in-Write.disk.0; what = Write (p.pba + row_at (plan_setting p) c.args.work.op) (value_at (plan_setting p) c.args.work.op ∷ []) (if b then 1 else c.write_row.ensures.logs.0); went = b })) c.if-write_row.true c.write_row.ensures.logs.1),
+          (sym (ap (need_of (numbers c.args.plan.now.members.items)) c.in-Write.is) ∙ c.need.ensures) refl (c.step_to-then-write_row.ensures p ∙ ap (λ (s : jobs.JobStep). record { next = put_client C c.args.k (client_at C.clients c.args.k).left (Busy c.args.work.op s); events = [] }) (c.after_write.ensures ∙ after_write_same p newest sizes (drop c.in-Write.rest members)))
+          (subst (λ (b : Bool). Logs told now (record { disk = c.in-Write.disk.0; what = Write (p.pba + row_at (plan_setting p) c.args.work.op) (value_at (plan_setting p) c.args.work.op ∷ []) (if b then 1 else c.write_row.ensures.logs.0); went = b })) c.if-write_row.true c.write_row.ensures.logs.1),
     )
 
 pub returns-else-write_row-clause-made : goal.returns-else-write_row-clause-made
@@ -129,13 +124,12 @@ returns-else-write_row-clause-made g c = λ newest.
     let told = g.B.Bank.log c.args.bank.now in
     let C = control_of p c.args.control.now in
     let members = numbers p.members.items in
-    let now = g.B.Bank.log c.write_row.new.bank in
-    (
+    let now = g.B.Bank.log c.write_row.new.bank in (
       record { went = false; stored = c.write_row.ensures.logs.0 },
       sector_of 0,
       met_some p newest sizes told now C c.args.calls.now c.args.k (record { went = false; stored = c.write_row.ensures.logs.0 }) (sector_of 0) c.args.work.op (step_of members c.args.work.step) (Writes c.in-Write.disk.0 (drop c.in-Write.rest members)) (out_of p c.drop_disk-else-write_row.new.control c.drop_disk-else-write_row.result) (record { disk = c.in-Write.disk.0; what = Write (p.pba + row_at (plan_setting p) c.args.work.op) (value_at (plan_setting p) c.args.work.op ∷ []) (c.write_row.ensures.logs.0); went = false }) (ap failed_of c.requires.live) c.requires.job
-      (sym (ap (need_of (numbers c.args.plan.now.members.items)) c.in-Write.is) ∙ c.need.ensures) refl (c.drop_disk-else-write_row.ensures p)
-      (subst (λ (b : Bool). Logs told now (record { disk = c.in-Write.disk.0; what = Write (p.pba + row_at (plan_setting p) c.args.work.op) (value_at (plan_setting p) c.args.work.op ∷ []) (if b then 1 else c.write_row.ensures.logs.0); went = b })) c.if-write_row.false c.write_row.ensures.logs.1),
+          (sym (ap (need_of (numbers c.args.plan.now.members.items)) c.in-Write.is) ∙ c.need.ensures) refl (c.drop_disk-else-write_row.ensures p)
+          (subst (λ (b : Bool). Logs told now (record { disk = c.in-Write.disk.0; what = Write (p.pba + row_at (plan_setting p) c.args.work.op) (value_at (plan_setting p) c.args.work.op ∷ []) (if b then 1 else c.write_row.ensures.logs.0); went = b })) c.if-write_row.false c.write_row.ensures.logs.1),
     )
 
 pub returns-in-Ok-sync-clause-made : goal.returns-in-Ok-sync-clause-made
@@ -145,13 +139,12 @@ returns-in-Ok-sync-clause-made g c = λ newest.
     let told = g.B.Bank.log c.args.bank.now in
     let C = control_of p c.args.control.now in
     let members = numbers p.members.items in
-    let now = g.B.Bank.log c.sync.new.self in
-    (
+    let now = g.B.Bank.log c.sync.new.self in (
       record { went = true; stored = 0 },
       sector_of 0,
       met_some p newest sizes told now C c.args.calls.now c.args.k (record { went = true; stored = 0 }) (sector_of 0) c.args.work.op (step_of members c.args.work.step) (Syncs c.in-Sync.disk.0 (drop c.in-Sync.rest members)) (out_of p c.step_to-in-Ok-sync.new.control c.step_to-in-Ok-sync.result) (record { disk = c.in-Sync.disk.0; what = Sync; went = true }) (ap failed_of c.requires.live) c.requires.job
-      (sym (ap (need_of (numbers c.args.plan.now.members.items)) c.in-Sync.is) ∙ c.need.ensures) refl (c.step_to-in-Ok-sync.ensures p ∙ ap (λ (s : jobs.JobStep). record { next = put_client C c.args.k (client_at C.clients c.args.k).left (Busy c.args.work.op s); events = [] }) c.after_sync.ensures)
-      (subst (λ (b : Bool). Logs told now (record { disk = c.in-Sync.disk.0; what = Sync; went = b })) (ap is_ok c.in-Ok-sync.is) c.sync.ensures.logs),
+          (sym (ap (need_of (numbers c.args.plan.now.members.items)) c.in-Sync.is) ∙ c.need.ensures) refl (c.step_to-in-Ok-sync.ensures p ∙ ap (λ (s : jobs.JobStep). record { next = put_client C c.args.k (client_at C.clients c.args.k).left (Busy c.args.work.op s); events = [] }) c.after_sync.ensures)
+          (subst (λ (b : Bool). Logs told now (record { disk = c.in-Sync.disk.0; what = Sync; went = b })) (ap is_ok c.in-Ok-sync.is) c.sync.ensures.logs),
     )
 
 pub returns-in-Err-sync-clause-made : goal.returns-in-Err-sync-clause-made
@@ -161,11 +154,10 @@ returns-in-Err-sync-clause-made g c = λ newest.
     let told = g.B.Bank.log c.args.bank.now in
     let C = control_of p c.args.control.now in
     let members = numbers p.members.items in
-    let now = g.B.Bank.log c.sync.new.self in
-    (
+    let now = g.B.Bank.log c.sync.new.self in (
       record { went = false; stored = 0 },
       sector_of 0,
       met_some p newest sizes told now C c.args.calls.now c.args.k (record { went = false; stored = 0 }) (sector_of 0) c.args.work.op (step_of members c.args.work.step) (Syncs c.in-Sync.disk.0 (drop c.in-Sync.rest members)) (out_of p c.drop_disk-in-Err-sync.new.control c.drop_disk-in-Err-sync.result) (record { disk = c.in-Sync.disk.0; what = Sync; went = false }) (ap failed_of c.requires.live) c.requires.job
-      (sym (ap (need_of (numbers c.args.plan.now.members.items)) c.in-Sync.is) ∙ c.need.ensures) refl (c.drop_disk-in-Err-sync.ensures p)
-      (subst (λ (b : Bool). Logs told now (record { disk = c.in-Sync.disk.0; what = Sync; went = b })) (ap is_ok c.in-Err-sync.is) c.sync.ensures.logs),
+          (sym (ap (need_of (numbers c.args.plan.now.members.items)) c.in-Sync.is) ∙ c.need.ensures) refl (c.drop_disk-in-Err-sync.ensures p)
+          (subst (λ (b : Bool). Logs told now (record { disk = c.in-Sync.disk.0; what = Sync; went = b })) (ap is_ok c.in-Err-sync.is) c.sync.ensures.logs),
     )

@@ -25,7 +25,7 @@ pub returns-in-None-clause-made : goal.returns-in-None-clause-made
 returns-in-None-clause-made g c = λ newest. (
   record { went = true; stored = 0 },
   monitor_rested c.args.plan.now newest (g.B.Bank.sizes c.args.bank.now) (g.B.Bank.log c.args.bank.now) (control_of c.args.plan.now c.args.control.now) c.args.calls.now (record { went = true; stored = 0 })
-  (out_of c.args.plan.now c.monitor_rest.new.self c.monitor_rest.result) (ap failed_of c.requires.live) (sym c.ask.ensures ∙ ap ask_of c.in-None.is) (c.monitor_rest.ensures (record { went = true; stored = 0 })),
+      (out_of c.args.plan.now c.monitor_rest.new.self c.monitor_rest.result) (ap failed_of c.requires.live) (sym c.ask.ensures ∙ ap ask_of c.in-None.is) (c.monitor_rest.ensures (record { went = true; stored = 0 })),
 )
 
 pub returns-then-round_call-clause-made : goal.returns-then-round_call-clause-made
@@ -35,15 +35,14 @@ returns-then-round_call-clause-made g c = λ newest.
     let C = control_of p c.args.control.now in
     let m = laid_of c.args.control.now.round.next.block.bytes in
     let a = c.in-Some.ask in
-    let stored = c.round_call.ensures.logs.0 in
-    (
+    let stored = c.round_call.ensures.logs.0 in (
       record { went = true; stored = stored },
       monitor_went p newest sizes (g.B.Bank.log c.args.bank.now) (g.B.Bank.log c.round_call.new.bank) C c.args.calls.now stored (out_of p c.round_went.new.self c.round_went.result)
-      (record { disk = a.disk.0; what = asked_of (slice_index sizes a.disk.0) m a.step 1; went = true }) a.disk.0 (step_of a.step) (ap failed_of c.requires.live) (sym c.ask.ensures ∙ ap ask_of c.in-Some.is)
-      (call_made p newest sizes C (numbers p.targets.items) m c.args.control.now.round.phase c.ask.result a true stored refl c.ask.ensures c.in-Some.is)
-      c.round_went.ensures
-      (subst (λ (b : Bool). Logs (g.B.Bank.log c.args.bank.now) (g.B.Bank.log c.round_call.new.bank) (record { disk = a.disk.0; what = asked_of (slice_index sizes a.disk.0) m a.step (if b then 1 else stored); went = b }))
-      c.if-round_call.true c.round_call.ensures.logs.1),
+          (record { disk = a.disk.0; what = asked_of (slice_index sizes a.disk.0) m a.step 1; went = true }) a.disk.0 (step_of a.step) (ap failed_of c.requires.live) (sym c.ask.ensures ∙ ap ask_of c.in-Some.is)
+          (call_made p newest sizes C (numbers p.targets.items) m c.args.control.now.round.phase c.ask.result a true stored refl c.ask.ensures c.in-Some.is)
+          c.round_went.ensures
+          (subst (λ (b : Bool). Logs (g.B.Bank.log c.args.bank.now) (g.B.Bank.log c.round_call.new.bank) (record { disk = a.disk.0; what = asked_of (slice_index sizes a.disk.0) m a.step (if b then 1 else stored); went = b }))
+          c.if-round_call.true c.round_call.ensures.logs.1),
     )
 
 pub returns-else-round_call-clause-made : goal.returns-else-round_call-clause-made
@@ -53,13 +52,12 @@ returns-else-round_call-clause-made g c = λ newest.
     let C = control_of p c.args.control.now in
     let m = laid_of c.args.control.now.round.next.block.bytes in
     let a = c.in-Some.ask in
-    let stored = c.round_call.ensures.logs.0 in
-    (
+    let stored = c.round_call.ensures.logs.0 in (
       record { went = false; stored = stored },
       monitor_failed p newest sizes (g.B.Bank.log c.args.bank.now) (g.B.Bank.log c.round_call.new.bank) C c.args.calls.now stored _
-      (record { disk = a.disk.0; what = asked_of (slice_index sizes a.disk.0) m a.step stored; went = false }) a.disk.0 (step_of a.step) (ap failed_of c.requires.live) (sym c.ask.ensures ∙ ap ask_of c.in-Some.is)
-      (call_made p newest sizes C (numbers p.targets.items) m c.args.control.now.round.phase c.ask.result a false stored refl c.ask.ensures c.in-Some.is)
-      (ap (λ x. record { next = x; events = [] }) (c.fail.ensures p))
-      (subst (λ (b : Bool). Logs (g.B.Bank.log c.args.bank.now) (g.B.Bank.log c.round_call.new.bank) (record { disk = a.disk.0; what = asked_of (slice_index sizes a.disk.0) m a.step (if b then 1 else stored); went = b }))
-      c.if-round_call.false c.round_call.ensures.logs.1),
+          (record { disk = a.disk.0; what = asked_of (slice_index sizes a.disk.0) m a.step stored; went = false }) a.disk.0 (step_of a.step) (ap failed_of c.requires.live) (sym c.ask.ensures ∙ ap ask_of c.in-Some.is)
+          (call_made p newest sizes C (numbers p.targets.items) m c.args.control.now.round.phase c.ask.result a false stored refl c.ask.ensures c.in-Some.is)
+          (ap (λ x. record { next = x; events = [] }) (c.fail.ensures p))
+          (subst (λ (b : Bool). Logs (g.B.Bank.log c.args.bank.now) (g.B.Bank.log c.round_call.new.bank) (record { disk = a.disk.0; what = asked_of (slice_index sizes a.disk.0) m a.step (if b then 1 else stored); went = b }))
+          c.if-round_call.false c.round_call.ensures.logs.1),
     )

@@ -1,0 +1,39 @@
+use Rattle.std.proofs.Common.{List, ℕ, refl, sym, ap, subst, ◌∙◌, inl}
+use Rattle.array_model.specs.Kept.{JournalState}
+use Rattle.stage_machine.specs.Machine.{Monitors}
+use Rattle.control_state.specs.Controls.{control_of, out_of}
+use Rattle.stage.specs.Runs.{run_setting}
+use Rattle.stage.specs.Stages.{IsStage, given_of, laid_at}
+use Rattle.stage.proofs.Staged.{stage_goes, turns_made, not_full}
+use Rattle.stage.proofs.stage.Stage.monitor_turn.Goals as goal
+
+pub invariant_of-self : goal.invariant_of-self
+invariant_of-self g c =
+    let p = c.self.inside.plan in
+    let newest = laid_at c.self.inside.newest in
+    let sizes = g.B.Bank.sizes c.self.inside.bank in
+    let told = g.B.Bank.log c.self.inside.bank in
+    let C = control_of p c.self.inside.control in
+    let made = c.self.inside.calls in
+    let few = (not_full c.self.inside.journal.room _ made (sym c.is_full.ensures ∙ c.if-is_full.false)).1 in
+    let out = out_of p c.monitor_part-events.new.control c.monitor_part-events.result in
+    let now = g.B.Bank.log c.monitor_part-events.new.bank in
+    let m = c.monitor_part-events.ensures.made newest in
+    subst (λ (sz : List ℕ). IsStage (run_setting p newest sz) p sz out.next c.monitor_part-events.new.calls c.enter.new.journal.entries c.enter.new.journal.room now) (sym c.monitor_part-events.ensures.sizes)
+    (subst (λ (j : JournalState). IsStage (run_setting p newest sizes) p sizes out.next c.monitor_part-events.new.calls j.entries j.room now) (sym c.enter.ensures)
+    (stage_goes (run_setting p newest sizes) p sizes C made c.self.inside.journal.entries c.self.inside.journal.room told (Monitors m.0) out c.monitor_part-events.new.calls _ now c.self.invariant few m.1 refl))
+
+pub returns : goal.returns
+returns g c =
+    let p = c.self.inside.plan in
+    let newest = laid_at c.self.inside.newest in
+    let sizes = g.B.Bank.sizes c.self.inside.bank in
+    let told = g.B.Bank.log c.self.inside.bank in
+    let C = control_of p c.self.inside.control in
+    let made = c.self.inside.calls in
+    let out = out_of p c.monitor_part-events.new.control c.monitor_part-events.result in
+    let now = g.B.Bank.log c.monitor_part-events.new.bank in
+    let m = c.monitor_part-events.ensures.made newest in
+    record {
+      turn = inl (m.0, turns_made _ _ _ (Monitors m.0) out told now c.self.view_is m.1 (ap (given_of p newest) c.monitor_part-events.ensures.sizes) (ap (λ (j : JournalState). j.room) c.enter.ensures) refl (ap (λ (j : JournalState). j.entries) c.enter.ensures));
+    }

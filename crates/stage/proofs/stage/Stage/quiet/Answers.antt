@@ -1,0 +1,38 @@
+use Rattle.std.proofs.Common.{refl, sym, ap, subst, ◌∙◌, inl}
+use Rattle.array_model.specs.Kept.{JournalState}
+use Rattle.stage_machine.specs.Machine.{Quiets}
+use Rattle.control_state.specs.Controls.{control_of, out_of, failed_of}
+use Rattle.stage.specs.Runs.{run_setting}
+use Rattle.stage.specs.Stages.{IsStage, laid_at}
+use Rattle.stage.proofs.Monitors.{makes_none}
+use Rattle.stage.proofs.Same.{quiet_same}
+use Rattle.stage.proofs.Staged.{stage_goes, turns_made, not_full}
+use Rattle.stage.proofs.stage.Stage.quiet.Goals as goal
+
+pub invariant_of-self : goal.invariant_of-self
+invariant_of-self g c =
+    let p = c.self.inside.plan in
+    let newest = laid_at c.self.inside.newest in
+    let sizes = g.B.Bank.sizes c.self.inside.bank in
+    let told = g.B.Bank.log c.self.inside.bank in
+    let C = control_of p c.self.inside.control in
+    let made = c.self.inside.calls in
+    let few = (not_full c.self.inside.journal.room _ made (sym c.is_full.ensures ∙ c.if-is_full.false)).1 in
+    let out = out_of p c.quiet-events.new.self c.quiet-events.result in
+    let makes = makes_none (run_setting p newest sizes) told C made Quiets out (ap failed_of c.in_default.is) refl (c.quiet-events.ensures ∙ quiet_same p newest sizes C C.state) in
+    subst (λ (j : JournalState). IsStage (run_setting p newest sizes) p sizes out.next made j.entries j.room told) (sym c.enter.ensures)
+    (stage_goes (run_setting p newest sizes) p sizes C made c.self.inside.journal.entries c.self.inside.journal.room told Quiets out made _ told c.self.invariant few makes refl)
+
+pub returns : goal.returns
+returns g c =
+    let p = c.self.inside.plan in
+    let newest = laid_at c.self.inside.newest in
+    let sizes = g.B.Bank.sizes c.self.inside.bank in
+    let told = g.B.Bank.log c.self.inside.bank in
+    let C = control_of p c.self.inside.control in
+    let made = c.self.inside.calls in
+    let out = out_of p c.quiet-events.new.self c.quiet-events.result in
+    let makes = makes_none (run_setting p newest sizes) told C made Quiets out (ap failed_of c.in_default.is) refl (c.quiet-events.ensures ∙ quiet_same p newest sizes C C.state) in
+    record {
+      turn = inl (turns_made _ _ _ Quiets out told told c.self.view_is makes refl (ap (λ (j : JournalState). j.room) c.enter.ensures) refl (ap (λ (j : JournalState). j.entries) c.enter.ensures));
+    }

@@ -1,0 +1,140 @@
+//! A stage over a bank: each of its turns is one of the machine.
+ghost use Rattle.std.specs.Prelude.{◌≡◌, ◌+◌, ◌≤◌, ◌⊎◌, ◌++◌, ℕ, length, nat_lt, nat_le, ◌||◌, ◌^◌};
+ghost use Rattle.imsm_base.specs.declared.units.Sector.{Sector as SectorBytes};
+ghost use Rattle.stage_machine.specs.Rounds.{Ended};
+ghost use Rattle.stage_machine.specs.Machine.{Monitors, Asks, Quiets, stamped};
+ghost use Rattle.control_state.specs.Controls.{listed};
+ghost use Rattle.stage.specs.Stages.{Turns, is_full, setting_of};
+ghost use Rattle.stage.specs.Runs.{Ran};
+
+use crate::client::client_part;
+use crate::monitor::monitor_part;
+use crate::turned::Turned;
+use array_model::{Entry, Journal};
+use control_state::{CLIENTS, Control, Events, Plan};
+use imsm_base::Sector;
+use member_bank::Bank;
+use std::marker::Model;
+
+/// As many calls a run makes at most.
+pub const MAX_CALLS: u64 = 1 << 48;
+
+/// A bank, and a run over it: the plan, the newest block's sector as it was found, where the run stands, how many device
+/// calls it has made, and its journal.
+#[derive(Drop)]
+pub struct Stage<B: Bank> {
+    bank: B,
+    plan: Plan,
+    newest: Sector,
+    control: Control,
+    calls: u64,
+    journal: Journal,
+}
+
+impl<B: Bank> Model for Stage<B> {
+    ghost use Rattle.control_state.specs.Controls.{control_of};
+    ghost use Rattle.stage.specs.Runs.{run_setting};
+    ghost use Rattle.stage.specs.Stages.{Seen, IsStage, given_of, laid_at};
+
+    ghost Value = { Seen B };
+
+    ghost view = { λ s. record { bank = s.bank; given = given_of s.plan (laid_at s.newest) (B.sizes s.bank); control = control_of s.plan s.control; calls = s.calls; journal = s.journal.entries; room = s.journal.room } };
+
+    ghost invariant = { λ s. IsStage (run_setting s.plan (laid_at s.newest) (B.sizes s.bank)) s.plan (B.sizes s.bank) (control_of s.plan s.control) s.calls s.journal.entries s.journal.room (B.log s.bank) };
+}
+
+/// Takes down what a turn enters.
+fn enter(journal: &mut Journal, stamp: u64, events: Events)
+    requires { length journal.old.entries + 2 ≤ journal.old.room }
+    ensures { journal.new ≡ record journal.old { entries = journal.old.entries ++ stamped stamp (listed events) } }
+{
+    match events {
+        Events::Zero => {}
+        Events::One(event) => journal.push(Entry { stamp, event }),
+        Events::Two(event, other) => {
+            journal.push(Entry { stamp, event });
+            journal.push(Entry {
+                stamp,
+                event: other,
+            });
+        }
+    }
+}
+
+/// Whether there is no room for one more turn.
+fn is_full(journal: &Journal, calls: u64) -> bool
+    ensures { result ≡ (nat_lt journal.now.room (length journal.now.entries + 4) || nat_le (2 ^ 48) calls) }
+{
+    let room = journal.room() as usize;
+    room < journal.len() || room - journal.len() < 4 || calls >= MAX_CALLS
+}
+
+impl<B: Bank> Stage<B> {
+    /// The monitor's turn.
+    pub fn monitor_turn(&mut self) -> Turned
+        ensures turn { ((x : Ended) × Turns self.old self.new (Monitors x)) ⊎ (self.new ≡ self.old) }
+    {
+        if let Some(disk) = self.control.failed {
+            return Turned::Member(disk);
+        }
+        if is_full(&self.journal, self.calls) {
+            return Turned::JournalFull;
+        }
+        let events = monitor_part(
+            &mut self.bank,
+            &mut self.control,
+            &self.plan,
+            &mut self.calls,
+        );
+        enter(&mut self.journal, self.calls, events);
+        Turned::Moved
+    }
+
+    /// A client's turn.
+    pub fn client_turn(&mut self, k: u8) -> Turned
+        ensures turn { ((x : Ended) × (got : SectorBytes) × Turns self.old self.new (Asks k x got)) ⊎ (self.new ≡ self.old) }
+    {
+        if k as usize >= CLIENTS {
+            return Turned::Idle;
+        }
+        if let Some(disk) = self.control.failed {
+            return Turned::Member(disk);
+        }
+        if is_full(&self.journal, self.calls) {
+            return Turned::JournalFull;
+        }
+        let events = client_part(
+            &mut self.bank,
+            &mut self.control,
+            &self.plan,
+            &mut self.calls,
+            k,
+        );
+        enter(&mut self.journal, self.calls, events);
+        Turned::Moved
+    }
+
+    /// The volume rests, where no write is without an answer.
+    pub fn quiet(&mut self) -> Turned
+        ensures turn { Turns self.old self.new Quiets ⊎ (self.new ≡ self.old) }
+    {
+        if let Some(disk) = self.control.failed {
+            return Turned::Member(disk);
+        }
+        if is_full(&self.journal, self.calls) {
+            return Turned::JournalFull;
+        }
+        let events = self.control.quiet(&self.plan);
+        enter(&mut self.journal, self.calls, events);
+        Turned::Moved
+    }
+
+    /// The bank and the journal, to which a run of the machine has led.
+    pub fn close(self) -> (B, Journal)
+        ensures bank { (result.0 ≡ self.bank) × (result.1.entries ≡ self.journal) }
+        ensures ran { Ran (setting_of self.given) self.control self.calls self.journal (B.log self.bank) }
+    {
+        let Stage { bank, journal, .. } = self;
+        (bank, journal)
+    }
+}
