@@ -2,3 +2,4 @@ pub mod Book
 pub mod Seen
 pub mod Rounds
 pub mod Controls
+pub mod Begins

@@ -6,6 +6,7 @@ mod book;
 mod client;
 mod control;
 mod job;
+mod open;
 mod plan;
 mod round;
 mod state;
