@@ -3,3 +3,4 @@ pub mod Same
 pub mod Monitors
 pub mod Asking
 pub mod Staged
+pub mod Opened

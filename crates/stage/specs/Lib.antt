@@ -1,3 +1,4 @@
 pub mod Runs
 pub mod Asked
 pub mod Stages
+pub mod Opens

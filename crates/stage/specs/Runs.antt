@@ -18,12 +18,16 @@ run_setting p newest sizes = record (plan_setting p) {
   start = record (plan_setting p).start { newest = newest; disks = disks_of [] sizes [] };
 }
 
--- the disks of the plan are in a bank of these sizes, and its rows are on its members
-pub record FitsBank (p : Plan) (sizes : List ℕ) : Type 0 where
-  pub some : 0 < p.size
-  pub below : p.pba + p.size < 2 ^ 64
-  pub targets : (d : ℕ) → has d (numbers p.targets.items) ≡ true → (d < length sizes) × (METADATA_SECTORS ≤ slice_index sizes d)
-  pub members : (d : ℕ) → has d (numbers p.members.items) ≡ true → (d < length sizes) × (p.pba + p.size ≤ slice_index sizes d)
+-- disks that rounds write to, and members with the rows of a volume on them, are in a bank of these sizes
+pub record FitsDisks (targets members : List ℕ) (pba size : ℕ) (sizes : List ℕ) : Type 0 where
+  pub some : 0 < size
+  pub below : pba + size < 2 ^ 64
+  pub targets_there : (d : ℕ) → has d targets ≡ true → (d < length sizes) × (METADATA_SECTORS ≤ slice_index sizes d)
+  pub members_there : (d : ℕ) → has d members ≡ true → (d < length sizes) × (pba + size ≤ slice_index sizes d)
+
+-- so are those of a plan
+abbrev pub FitsBank : Plan → List ℕ → Type 0
+FitsBank p sizes = FitsDisks (numbers p.targets.items) (numbers p.members.items) p.pba p.size sizes
 
 -- what a bank tells after the call of a turn, if it makes one
 abbrev pub Tells : Option (List Call) → Option Call → Option (List Call) → Type 0
@@ -40,6 +44,10 @@ abbrev pub IsReading : What → Type 0
 IsReading (Read place) = ⊤
 IsReading (Write place sectors stored) = ⊥
 IsReading Sync = ⊥
+
+-- where the log is told, it has only reads so far
+abbrev pub OnlyReads : Option (List Call) → Type 0
+OnlyReads told = (all : List Call) → told ≡ Some all → AllByRecursion (λ call. IsReading call.what) all
 
 -- a log that is told has the calls before the run, and then those of the run
 abbrev pub Agrees : Option (List Call) → List Call → List Call → Type 0

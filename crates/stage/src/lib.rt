@@ -4,8 +4,10 @@
 mod calls;
 mod client;
 mod monitor;
+mod open;
 mod stage;
 mod turned;
 
+pub use open::{Opening, StageFault};
 pub use stage::{MAX_CALLS, Stage};
 pub use turned::Turned;

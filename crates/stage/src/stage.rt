@@ -1,19 +1,26 @@
 //! A stage over a bank: each of its turns is one of the machine.
-ghost use Rattle.std.specs.Prelude.{◌≡◌, ◌+◌, ◌≤◌, ◌⊎◌, ◌++◌, ℕ, length, nat_lt, nat_le, ◌||◌, ◌^◌};
+ghost use Rattle.std.specs.Prelude.{◌≡◌, ◌+◌, ◌<◌, ◌≤◌, IfOk, IfErr, ◌⊎◌, ◌++◌, ℕ, length, nat_lt, nat_le, ◌||◌, ◌^◌};
 ghost use Rattle.imsm_base.specs.declared.units.Sector.{Sector as SectorBytes};
 ghost use Rattle.stage_machine.specs.Rounds.{Ended};
 ghost use Rattle.stage_machine.specs.Machine.{Monitors, Asks, Quiets, stamped};
 ghost use Rattle.control_state.specs.Controls.{listed};
 ghost use Rattle.stage.specs.Stages.{Turns, is_full, setting_of};
-ghost use Rattle.stage.specs.Runs.{Ran};
+ghost use Rattle.imsm_codec.specs.Mpb.{block_bytes};
+ghost use Rattle.block_words.specs.Reading.{block_words};
+ghost use Rattle.control_state.specs.Book.{IsBook, laid_of};
+ghost use Rattle.control_state.specs.Seen.{numbers};
+ghost use Rattle.stage.specs.Runs.{Ran, FitsDisks, OnlyReads};
+ghost use Rattle.stage.specs.Opens.{given_by, IsOpened};
 
 use crate::client::client_part;
 use crate::monitor::monitor_part;
+use crate::open::{Opening, StageFault, control_at, plan_of};
 use crate::turned::Turned;
-use array_model::{Entry, Journal};
+use array_model::{Entry, Journal, Script};
 use control_state::{CLIENTS, Control, Events, Plan};
 use imsm_base::Sector;
 use member_bank::Bank;
+use std::alloc::Global;
 use std::marker::Model;
 
 /// As many calls a run makes at most.
@@ -70,6 +77,43 @@ fn is_full(journal: &Journal, calls: u64) -> bool
 }
 
 impl<B: Bank> Stage<B> {
+    /// A stage over a bank, with all the memory that its turns take. Without memory the bank comes back.
+    pub fn open(
+        alloc: Global,
+        bank: B,
+        opening: Opening<'_>,
+        script: &Script,
+        limit: u32,
+    ) -> Result<Stage<B>, (B, StageFault)>
+        requires book { IsBook (block_bytes opening.block) }
+        requires generation { block_words.generation (laid_of (block_bytes opening.block)).anchor < 0xff000000 }
+        requires limit { limit ≤ 2 ^ 20 }
+        requires disks { FitsDisks (numbers opening.targets.items) (numbers opening.members.items) opening.pba opening.size (B.sizes bank) }
+        requires reads { OnlyReads (B.log bank) }
+        ensures ok { IfOk result (λ s. IsOpened s bank (given_by opening.entry script.now (B.sizes bank)) limit) }
+        ensures err { IfErr result (λ e. e.0 ≡ bank) }
+    {
+        let control = match control_at(alloc, &opening.block) {
+            Ok(control) => control,
+            Err(fault) => return Err((bank, fault)),
+        };
+        let plan = match plan_of(alloc, opening, script) {
+            Ok(plan) => plan,
+            Err(fault) => return Err((bank, fault)),
+        };
+        let Ok(journal) = Journal::with_room(alloc, limit) else {
+            return Err((bank, StageFault::Memory));
+        };
+        Ok(Stage {
+            bank,
+            plan,
+            newest: control.round.book.anchor(),
+            control,
+            calls: 0,
+            journal,
+        })
+    }
+
     /// The monitor's turn.
     pub fn monitor_turn(&mut self) -> Turned
         ensures turn { ((x : Ended) × Turns self.old self.new (Monitors x)) ⊎ (self.new ≡ self.old) }

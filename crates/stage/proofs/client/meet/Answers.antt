@@ -14,12 +14,12 @@ use Rattle.stage.proofs.Asking.{needed_has, row_below, met_none, met_some}
 use Rattle.stage.proofs.client.meet.Goals as goal
 
 pub read_row-requires-clause-disk : goal.read_row-requires-clause-disk
-read_row-requires-clause-disk g c = (c.requires.fits.members c.in-Read.disk.0 (needed_has c.args.plan.now (control_of c.args.plan.now c.args.control.now) c.args.k c.args.work.op c.in-Read.disk.0 c.args.work.step (Reads c.in-Read.disk.0) (sym (ap (need_of (numbers c.args.plan.now.members.items)) c.in-Read.is) ∙ c.need.ensures) refl)).0
+read_row-requires-clause-disk g c = (c.requires.fits.members_there c.in-Read.disk.0 (needed_has c.args.plan.now (control_of c.args.plan.now c.args.control.now) c.args.k c.args.work.op c.in-Read.disk.0 c.args.work.step (Reads c.in-Read.disk.0) (sym (ap (need_of (numbers c.args.plan.now.members.items)) c.in-Read.is) ∙ c.need.ensures) refl)).0
 
 pub read_row-requires-clause-room : goal.read_row-requires-clause-room
 read_row-requires-clause-room g c =
     let row = row_below c.args.plan.now c.args.work.op c.requires.fits.some in
-    let room = (c.requires.fits.members c.in-Read.disk.0 (needed_has c.args.plan.now (control_of c.args.plan.now c.args.control.now) c.args.k c.args.work.op c.in-Read.disk.0 c.args.work.step (Reads c.in-Read.disk.0) (sym (ap (need_of (numbers c.args.plan.now.members.items)) c.in-Read.is) ∙ c.need.ensures) refl)).1 in
+    let room = (c.requires.fits.members_there c.in-Read.disk.0 (needed_has c.args.plan.now (control_of c.args.plan.now c.args.control.now) c.args.k c.args.work.op c.in-Read.disk.0 c.args.work.step (Reads c.in-Read.disk.0) (sym (ap (need_of (numbers c.args.plan.now.members.items)) c.in-Read.is) ∙ c.need.ensures) refl)).1 in
     omega (arith, row, room)
 
 pub read_row-requires-clause-fits : goal.read_row-requires-clause-fits
@@ -29,12 +29,12 @@ read_row-requires-clause-fits g c =
     omega (arith, row, below)
 
 pub write_row-requires-clause-disk : goal.write_row-requires-clause-disk
-write_row-requires-clause-disk g c = (c.requires.fits.members c.in-Write.disk.0 (needed_has c.args.plan.now (control_of c.args.plan.now c.args.control.now) c.args.k c.args.work.op c.in-Write.disk.0 c.args.work.step (Writes c.in-Write.disk.0 (drop c.in-Write.rest (numbers c.args.plan.now.members.items))) (sym (ap (need_of (numbers c.args.plan.now.members.items)) c.in-Write.is) ∙ c.need.ensures) refl)).0
+write_row-requires-clause-disk g c = (c.requires.fits.members_there c.in-Write.disk.0 (needed_has c.args.plan.now (control_of c.args.plan.now c.args.control.now) c.args.k c.args.work.op c.in-Write.disk.0 c.args.work.step (Writes c.in-Write.disk.0 (drop c.in-Write.rest (numbers c.args.plan.now.members.items))) (sym (ap (need_of (numbers c.args.plan.now.members.items)) c.in-Write.is) ∙ c.need.ensures) refl)).0
 
 pub write_row-requires-clause-room : goal.write_row-requires-clause-room
 write_row-requires-clause-room g c =
     let row = row_below c.args.plan.now c.args.work.op c.requires.fits.some in
-    let room = (c.requires.fits.members c.in-Write.disk.0 (needed_has c.args.plan.now (control_of c.args.plan.now c.args.control.now) c.args.k c.args.work.op c.in-Write.disk.0 c.args.work.step (Writes c.in-Write.disk.0 (drop c.in-Write.rest (numbers c.args.plan.now.members.items))) (sym (ap (need_of (numbers c.args.plan.now.members.items)) c.in-Write.is) ∙ c.need.ensures) refl)).1 in
+    let room = (c.requires.fits.members_there c.in-Write.disk.0 (needed_has c.args.plan.now (control_of c.args.plan.now c.args.control.now) c.args.k c.args.work.op c.in-Write.disk.0 c.args.work.step (Writes c.in-Write.disk.0 (drop c.in-Write.rest (numbers c.args.plan.now.members.items))) (sym (ap (need_of (numbers c.args.plan.now.members.items)) c.in-Write.is) ∙ c.need.ensures) refl)).1 in
     omega (arith, row, room)
 
 pub write_row-requires-clause-fits : goal.write_row-requires-clause-fits
@@ -44,7 +44,7 @@ write_row-requires-clause-fits g c =
     omega (arith, row, below)
 
 pub sync-requires : goal.sync-requires
-sync-requires g c = (c.requires.fits.members c.in-Sync.disk.0 (needed_has c.args.plan.now (control_of c.args.plan.now c.args.control.now) c.args.k c.args.work.op c.in-Sync.disk.0 c.args.work.step (Syncs c.in-Sync.disk.0 (drop c.in-Sync.rest (numbers c.args.plan.now.members.items))) (sym (ap (need_of (numbers c.args.plan.now.members.items)) c.in-Sync.is) ∙ c.need.ensures) refl)).0
+sync-requires g c = (c.requires.fits.members_there c.in-Sync.disk.0 (needed_has c.args.plan.now (control_of c.args.plan.now c.args.control.now) c.args.k c.args.work.op c.in-Sync.disk.0 c.args.work.step (Syncs c.in-Sync.disk.0 (drop c.in-Sync.rest (numbers c.args.plan.now.members.items))) (sym (ap (need_of (numbers c.args.plan.now.members.items)) c.in-Sync.is) ∙ c.need.ensures) refl)).0
 
 pub returns-in-Nothing-clause-made : goal.returns-in-Nothing-clause-made
 returns-in-Nothing-clause-made g c = λ newest.

@@ -11,13 +11,13 @@ use Rattle.stage.proofs.monitor.monitor_part.Goals as goal
 
 pub round_call-requires-clause-disk : goal.round_call-requires-clause-disk
 round_call-requires-clause-disk g c =
-    (c.requires.fits.targets c.in-Some.ask.disk.0
+    (c.requires.fits.targets_there c.in-Some.ask.disk.0
     (asked_has (numbers c.args.plan.now.targets.items) (laid_of c.args.control.now.round.next.block.bytes) c.args.control.now.round.phase c.in-Some.ask.disk.0 (step_of c.in-Some.ask.step)
     (sym c.ask.ensures ∙ ap ask_of c.in-Some.is))).0
 
 pub round_call-requires-clause-room : goal.round_call-requires-clause-room
 round_call-requires-clause-room g c =
-    (c.requires.fits.targets c.in-Some.ask.disk.0
+    (c.requires.fits.targets_there c.in-Some.ask.disk.0
     (asked_has (numbers c.args.plan.now.targets.items) (laid_of c.args.control.now.round.next.block.bytes) c.args.control.now.round.phase c.in-Some.ask.disk.0 (step_of c.in-Some.ask.step)
     (sym c.ask.ensures ∙ ap ask_of c.in-Some.is))).1
 
