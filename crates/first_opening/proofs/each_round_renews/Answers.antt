@@ -1,0 +1,5 @@
+use Rattle.block_words.proofs.Renewal.{renewal}
+use Rattle.first_opening.proofs.each_round_renews.Goals as goal
+
+pub returns : goal.returns
+returns c o asked content unsure = renewal

@@ -1,0 +1,17 @@
+//! The opening of a bank of disks that holds a container of the first form meets what the laws on the machine's runs take
+//! as given.
+#![tactic(auto)]
+
+ghost use Rattle.std.specs.Prelude.{◌≡◌, ℕ, Bool, true};
+ghost use Rattle.std.specs.List.{list_all};
+ghost use Rattle.imsm_base.specs.declared.units.Sector.{Sector};
+ghost use Rattle.array_model.specs.Script.{Asked};
+ghost use Rattle.stage_machine.specs.Setting.{Renews};
+ghost use Rattle.stage_machine.specs.Opens.{AsksFirst, StandsOnAll, IsFirstVolume, HoldsContent};
+ghost use Rattle.first_opening.specs.Opened.{Opened, IsOpening, HoldsCopies, setting_of, is_first_op};
+
+/// The edit of a run's rounds is that of a round: on each block that a round may be edited from, and each generation of
+/// four bytes, it changes the generation and the dirty bit of volume 0 alone, and the block stays whole.
+pub fn each_round_renews()
+    ensures { (o : Opened) (asked : Asked) (content : ℕ → ℕ → Sector) (unsure : ℕ → ℕ → Bool) → Renews (setting_of o asked content unsure) }
+{}
