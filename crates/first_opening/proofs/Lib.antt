@@ -1,0 +1,5 @@
+pub mod Numbers
+pub mod Records
+pub mod Found
+pub mod Volume
+pub mod Asked

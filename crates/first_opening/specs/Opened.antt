@@ -4,7 +4,7 @@ use Rattle.std.specs.Prelude.{◌≡◌, ℕ, ◌+◌, ◌<◌, ◌==◌, ◌&&�
 use Rattle.std.specs.List.{list_all, range_with_len}
 use Rattle.std.specs.Str.{bytes_eq}
 use Rattle.imsm_base.specs.declared.units.Sector.{Sector}
-use Rattle.imsm_base.specs.Layout.{Block, Volume, serial_of, volume_size_of, pba_of}
+use Rattle.imsm_base.specs.Layout.{Volume, serial_of, volume_size_of, pba_of}
 use Rattle.imsm_base.specs.Parts.{block_in}
 use Rattle.imsm_base.specs.Whole.{AreApart, IsWholeDisk, anchor_place}
 use Rattle.imsm_base.specs.Volumes.{first_map}

@@ -15,3 +15,23 @@ ghost use Rattle.first_opening.specs.Opened.{Opened, IsOpening, HoldsCopies, set
 pub fn each_round_renews()
     ensures { (o : Opened) (asked : Asked) (content : ℕ → ℕ → Sector) (unsure : ℕ → ℕ → Bool) → Renews (setting_of o asked content unsure) }
 {}
+
+/// The newest block stands in one sector on each disk that it expects, and is whole there.
+pub fn the_newest_block_stands_on_all()
+    ensures { (o : Opened) (asked : Asked) (content : ℕ → ℕ → Sector) (unsure : ℕ → ℕ → Bool) → IsOpening o → StandsOnAll (setting_of o asked content unsure) }
+{}
+
+/// The volume is a started mirror, whose slots are in sync, and it ends before the sectors that are kept for metadata.
+pub fn the_volume_is_a_started_mirror()
+    ensures { (o : Opened) (asked : Asked) (content : ℕ → ℕ → Sector) (unsure : ℕ → ℕ → Bool) → IsOpening o → IsFirstVolume (setting_of o asked content unsure) }
+{}
+
+/// Where the contents are what both copies hold, but for unsure sectors, each member holds the content.
+pub fn the_members_hold_the_content()
+    ensures { (o : Opened) (asked : Asked) (content : ℕ → ℕ → Sector) (unsure : ℕ → ℕ → Bool) → IsOpening o → HoldsCopies o content unsure → HoldsContent (setting_of o asked content unsure) }
+{}
+
+/// A script of clients below 16 and of volume 0 is one that the machine's runs take.
+pub fn the_script_is_taken()
+    ensures { (o : Opened) (asked : Asked) (content : ℕ → ℕ → Sector) (unsure : ℕ → ℕ → Bool) → list_all is_first_op asked.ops ≡ true → AsksFirst (setting_of o asked content unsure) }
+{}

@@ -1,0 +1,150 @@
+-- What the opening found: the newest block as it is read, and the disks that it expects.
+use Rattle.std.proofs.Common.{◌≡◌, ℕ, zero, suc, ◌-◌, ◌<◌, ◌≤◌, ◌==◌, ◌&&◌, Bool, true, false, if◌then◌else◌, List, [], ◌∷◌, length, map, slice_index, slice_index_or, nat_lt, refl, sym, ◌∙◌, ap, subst, arith}
+use Rattle.std.specs.List.{list_all}
+use Rattle.std.proofs.lemmas.Bool.{and_parts, and_right, ltb-true, ltb-false, false≢true}
+use Rattle.std.proofs.lemmas.Option.{get_or_from_slice_get}
+use Rattle.imsm_base.specs.declared.units.Sector.{Sector}
+use Rattle.imsm_base.specs.Fields.{Part, number_at}
+use Rattle.imsm_base.specs.Layout.{Block, Volume, size_of, disk_count_of, serial_of, total_blocks_of}
+use Rattle.imsm_base.specs.Parts.{block_in}
+use Rattle.imsm_base.specs.Whole.{IsWholeBlock, IsWholeDisk, anchor_place, expected_serials, extended_count}
+use Rattle.imsm_base.proofs.Apart.{length-disks}
+use Rattle.device_log.specs.Cells.{Cell, resting}
+use Rattle.array_model.specs.Blocks.{Laid, is_container}
+use Rattle.array_model.specs.Candidates.{standing, standing_from}
+use Rattle.array_model.specs.Meaning.{bytes_of_laid, has_serial}
+use Rattle.array_model.specs.Script.{Asked}
+use Rattle.array_model.specs.Start.{Disks, disks_of}
+use Rattle.block_words.specs.Reading.{parts_of, block_words}
+use Rattle.block_words.proofs.Decided.{disk-decided}
+use Rattle.block_words.proofs.Renewal.{sector-size, sector-bytes, alone_in}
+use Rattle.stage_machine.specs.Setting.{has}
+use Rattle.stage_machine.specs.Opens.{StandsOnAll}
+use Rattle.first_opening.specs.Opened.{Opened, IsOpening, serial_at, newest_of, numbers_of, targets_of, setting_of}
+use Rattle.first_opening.proofs.Numbers.{has-filter, below-range, range-has}
+use Rattle.first_opening.proofs.Records.{Speaks, speaks, expected-serial, no-empty-serial}
+
+-- THE NEWEST BLOCK
+
+some-list : (serials : List (List ℕ)) (disks : List Part) → length disks ≡ 2 → list_all (has_serial serials) (map serial_of disks) ≡ true → 0 < length serials
+some-list (s ∷ ss) disks two there = omega arith
+some-list [] [] two there = absurd (omega arith)
+some-list [] (d ∷ ds) two there = absurd (false≢true there)
+
+count-is : (bytes : List ℕ) → number_at 1 56 bytes ≡ disk_count_of (block_in bytes)
+unfolding block_in
+count-is bytes = refl
+
+pub two-records : (o : Opened) → IsOpening o → length (block_in o.block).disks ≡ 2
+two-records o is = length-disks o.block ∙ count-is o.block ∙ is.first.two_disks
+
+-- how the newest block is read
+pub record IsFound (o : Opened) : Type 0 where
+  pub some : 0 < length o.serials
+  pub whole : IsWholeBlock o.block (block_in o.block)
+  pub bytes : bytes_of_laid (newest_of o) ≡ o.block
+  pub parts : parts_of (newest_of o) ≡ block_in o.block
+  pub alone : block_words.extra (newest_of o).anchor ≡ 0
+
+pub found : (o : Opened) → IsOpening o → IsFound o
+found o is =
+    let some : 0 < length o.serials = some-list o.serials (block_in o.block).disks (two-records o is) is.there in
+    let whole : IsWholeBlock o.block (block_in o.block) = (is.whole 0 some).whole in
+    let given : size_of (block_in o.block) ≡ length o.block = whole.given in
+    let one_sector : size_of (block_in o.block) ≤ 512 = is.first.one_sector in
+    let short : length o.block ≤ 512 = omega arith in
+    let bytes : bytes_of_laid (newest_of o) ≡ o.block = sector-bytes o.block (block_in o.block) whole short in
+    record {
+      some = some;
+      whole = whole;
+      bytes = bytes;
+      parts = ap block_in bytes;
+      alone = ap extended_count (sector-size o.block (block_in o.block) whole short) ∙ alone_in (length o.block) short;
+    }
+
+container-in : (vs : List Volume) (v : Volume) → vs ≡ v ∷ [] → (if length vs == 0 then false else true) ≡ true
+container-in vs v one = ap (λ (xs : List Volume). if length xs == 0 then false else true) one
+
+container : (o : Opened) → IsOpening o → is_container block_words (newest_of o) ≡ true
+container o is =
+    ap (λ (x : Block). if length x.volumes == 0 then false else true) (found o is).parts
+    ∙ container-in (block_in o.block).volumes is.first.one_volume.0 is.first.one_volume.1
+
+-- it is whole on each disk
+pub whole-on : (o : Opened) (d : ℕ) → IsOpening o → d < length o.serials → block_words.is_whole (serial_at o d) (slice_index o.sizes d) (newest_of o) ≡ true
+whole-on o d is below =
+    let f : IsFound o = found o is in
+    let n : ℕ = slice_index o.sizes d in
+    let read : IsWholeDisk (serial_at o d) n (bytes_of_laid (newest_of o)) (parts_of (newest_of o)) =
+    subst (λ (x : List ℕ). IsWholeDisk (serial_at o d) n x (block_in x)) (sym f.bytes) (is.whole d below) in
+    (disk-decided (serial_at o d) n (bytes_of_laid (newest_of o))).1 read
+
+-- THE DISKS THAT IT EXPECTS
+
+-- the record of each disk in the table
+pub own-record : (o : Opened) (d : ℕ) → IsOpening o → d < length o.serials → Speaks (serial_at o d) (block_in o.block).disks (λ r. total_blocks_of r ≤ slice_index o.sizes d)
+own-record o d is below = speaks (serial_at o d) (block_in o.block) (λ r. total_blocks_of r ≤ slice_index o.sizes d) (is.whole d below).own_fits
+
+pub expects-each : (o : Opened) (d : ℕ) → IsOpening o → d < length o.serials → block_words.expects (newest_of o) (serial_at o d) ≡ true
+expects-each o d is below =
+    let own = own-record o d is below in
+    ap (λ (x : Block). has_serial (expected_serials x) (serial_at o d)) (found o is).parts
+    ∙ expected-serial (block_in o.block).disks own.index own.disk (serial_at o d) is.first.expected own.there own.same
+
+-- past the last disk there is no serial, and the block expects none
+expects-none : (o : Opened) (d : ℕ) → IsOpening o → length o.serials ≤ d → block_words.expects (newest_of o) (serial_at o d) ≡ false
+expects-none o d is past =
+    let f : IsFound o = found o is in
+    ap (λ (x : Block). has_serial (expected_serials x) (serial_at o d)) f.parts
+    ∙ ap (has_serial (expected_serials (block_in o.block))) (no-serial o.serials d past)
+    ∙ no-empty-serial (block_in o.block).disks f.whole.spells.parts.disks
+  where
+    no-serial : (serials : List (List ℕ)) (k : ℕ) → length serials ≤ k → slice_index_or serials k [] ≡ []
+    no-serial [] k past = refl
+    no-serial (s ∷ ss) zero past = absurd (omega arith)
+    no-serial (s ∷ ss) (suc k) past = no-serial ss k (omega arith)
+
+pub target-below : (o : Opened) (d : ℕ) → has d (targets_of o) ≡ true → d < length o.serials
+target-below o d target =
+    let both = and_parts (has d (numbers_of o)) _ (sym (has-filter d (λ k. block_words.expects (newest_of o) (serial_at o k)) (numbers_of o)) ∙ target) in
+    omega (arith, below-range d 0 (length o.serials) both.0)
+
+expected-is : (o : Opened) (d : ℕ) → IsOpening o → block_words.expects (newest_of o) (serial_at o d) ≡ has d (targets_of o)
+expected-is o d is = at (nat_lt d (length o.serials)) refl ∙ sym (has-filter d (λ k. block_words.expects (newest_of o) (serial_at o k)) (numbers_of o))
+  where
+    at : (b : Bool) → nat_lt d (length o.serials) ≡ b → block_words.expects (newest_of o) (serial_at o d) ≡ (has d (numbers_of o) && block_words.expects (newest_of o) (serial_at o d))
+    at true below = sym (ap (λ (b : Bool). b && block_words.expects (newest_of o) (serial_at o d)) (range-has d 0 (length o.serials) (omega arith) (omega (arith, ltb-true d (length o.serials) below))))
+    at false past =
+        let none : block_words.expects (newest_of o) (serial_at o d) ≡ false = expects-none o d is (ltb-false d (length o.serials) past) in
+        none ∙ sym (and_right (has d (numbers_of o)) (block_words.expects (newest_of o) (serial_at o d)) none)
+
+pub is-target : (o : Opened) (d : ℕ) → IsOpening o → d < length o.serials → has d (targets_of o) ≡ true
+is-target o d is below = sym (expected-is o d is) ∙ expects-each o d is below
+
+-- WHERE IT STANDS
+
+abbrev bank : Opened → Disks
+bank o = disks_of o.serials o.sizes o.contents
+
+-- a block of one sector stands where its anchor does
+anchor-stands : (n : ℕ) (cells : ℕ → Cell) (anchor : Sector) → (cells (anchor_place n)).stood ≡ anchor → block_words.extra anchor ≡ 0 → standing block_words n cells ≡ record { anchor = anchor; extended = [] }
+anchor-stands n cells anchor here alone =
+    let place : ℕ = anchor_place n in
+    ap (λ (a : Sector). let m : Laid = record { anchor = a; extended = standing_from cells (place - block_words.extra a) (block_words.extra a) } in m) here
+    ∙ ap (λ (k : ℕ). let m : Laid = record { anchor = anchor; extended = standing_from cells (place - k) k } in m) alone
+
+stands-on : (o : Opened) (d : ℕ) → IsOpening o → d < length o.serials → standing block_words (slice_index o.sizes d) (λ p. resting ((bank o).opening d p)) ≡ newest_of o
+stands-on o d is below =
+    let n : ℕ = slice_index o.sizes d in
+    let here : (bank o).opening d (anchor_place n) ≡ (newest_of o).anchor = get_or_from_slice_get (slice_index_or o.contents d []) (anchor_place n) (newest_of o).anchor (record { 0 = [] }) (is.anchored d below) in
+    anchor-stands n (λ p. resting ((bank o).opening d p)) (newest_of o).anchor here (found o is).alone
+
+pub stands-on-all : (o : Opened) (asked : Asked) (content : ℕ → ℕ → Sector) (unsure : ℕ → ℕ → Bool) → IsOpening o → StandsOnAll (setting_of o asked content unsure)
+stands-on-all o asked content unsure is = record {
+  container = container o is;
+  alone = (found o is).alone;
+  short = refl;
+  expected = λ d. expected-is o d is;
+  stands = λ d target. stands-on o d is (target-below o d target);
+  whole = λ d target. whole-on o d is (target-below o d target);
+}
