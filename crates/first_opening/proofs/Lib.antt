@@ -2,4 +2,6 @@ pub mod Numbers
 pub mod Records
 pub mod Found
 pub mod Volume
+pub mod Slots
+pub mod Copies
 pub mod Asked

@@ -1,9 +1,9 @@
 -- The volume of the newest block: its shape, its slots, and the room that it has on each disk.
-use Rattle.std.proofs.Common.{◌≡◌, ◌≢◌, ℕ, zero, suc, ◌+◌, ◌<◌, ◌≤◌, ◌==◌, ◌&&◌, not, Bool, true, false, List, [], ◌∷◌, length, map, slice_get, slice_index, slice_index_or, nat_lt, nat_le, Option, Some, bytes_eq, ◌⊎◌, inl, inr, refl, sym, ◌∙◌, ap, subst, arith}
+use Rattle.std.proofs.Common.{◌≡◌, ◌≢◌, ℕ, zero, suc, ◌+◌, ◌<◌, ◌≤◌, ◌==◌, ◌&&◌, not, Bool, true, false, List, [], ◌∷◌, length, map, slice_get, slice_index, nat_lt, nat_le, Option, Some, bytes_eq, ◌⊎◌, inl, inr, refl, sym, ◌∙◌, ap, subst, arith}
 use Rattle.std.specs.List.{list_all}
 use Rattle.std.specs.Option.{option_map_or}
 use Rattle.std.proofs.lemmas.Bool.{false≢true, and_parts, or_parts, and_from, leb-true, ltb-true, eqb-true, eqb-false, not_from_false}
-use Rattle.std.proofs.lemmas.Option.{get_or_from_slice_get, slice_get_within}
+use Rattle.std.proofs.lemmas.Option.{slice_get_within}
 use Rattle.std.proofs.lemmas.Slice.Eq.{bytes_eq-Decides}
 use Rattle.imsm_base.specs.declared.bounds.TheConstants.{METADATA_SECTORS}
 use Rattle.imsm_base.specs.declared.units.Level.{Level}
@@ -20,8 +20,8 @@ use Rattle.array_model.specs.Placement.{Shape}
 use Rattle.array_model.specs.Script.{Asked}
 use Rattle.block_words.specs.Reading.{block_words}
 use Rattle.stage_machine.specs.Setting.{has}
-use Rattle.stage_machine.specs.Opens.{IsFirstVolume, HoldsContent}
-use Rattle.first_opening.specs.Opened.{Opened, IsOpening, HoldsCopies, serial_at, newest_of, numbers_of, disks_in_slot, members_of, setting_of}
+use Rattle.stage_machine.specs.Opens.{IsFirstVolume}
+use Rattle.first_opening.specs.Opened.{Opened, IsOpening, serial_at, newest_of, numbers_of, disks_in_slot, members_of, setting_of}
 use Rattle.first_opening.proofs.Numbers.{has-filter, below-range, in-one}
 use Rattle.first_opening.proofs.Records.{expected-at}
 use Rattle.first_opening.proofs.Found.{found, own-record, two-records, target-below, is-target}
@@ -29,17 +29,17 @@ use Rattle.first_opening.proofs.Found.{found, own-record, two-records, target-be
 -- THE VOLUME
 
 -- the volume, and what is tested of it
-record IsMirror (o : Opened) (v : Volume) : Type 0 where
-  one : (block_in o.block).volumes ≡ v ∷ []
-  clean : IsCleanMirror (block_in o.block) v
-  tests : AreMirrorTests (block_in o.block) v
-  shape : block_words.shape (newest_of o) 0 ≡ shape_of v
-  slots : block_words.slots (newest_of o) 0 ≡ slot_words (block_in o.block) (member v 0) ∷ slot_words (block_in o.block) (member v 1) ∷ []
+pub record IsMirror (o : Opened) (v : Volume) : Type 0 where
+  pub one : (block_in o.block).volumes ≡ v ∷ []
+  pub clean : IsCleanMirror (block_in o.block) v
+  pub tests : AreMirrorTests (block_in o.block) v
+  pub shape : block_words.shape (newest_of o) 0 ≡ shape_of v
+  pub slots : block_words.slots (newest_of o) 0 ≡ slot_words (block_in o.block) (member v 0) ∷ slot_words (block_in o.block) (member v 1) ∷ []
 
-abbrev the-volume : (o : Opened) → IsOpening o → Volume
+abbrev pub the-volume : (o : Opened) → IsOpening o → Volume
 the-volume o is = is.first.one_volume.0
 
-mirror : (o : Opened) (is : IsOpening o) → IsMirror o (the-volume o is)
+pub mirror : (o : Opened) (is : IsOpening o) → IsMirror o (the-volume o is)
 mirror o is =
     let b : Block = block_in o.block in
     let v : Volume = the-volume o is in
@@ -60,10 +60,10 @@ mirror o is =
 -- THE SLOTS
 
 -- the indices of both slots are in the table and differ
-record ArePair (v : Volume) : Type 0 where
-  first : (member v 0).index < 2
-  second : (member v 1).index < 2
-  apart : (member v 0).index ≢ (member v 1).index
+pub record ArePair (v : Volume) : Type 0 where
+  pub first : (member v 0).index < 2
+  pub second : (member v 1).index < 2
+  pub apart : (member v 0).index ≢ (member v 1).index
 
 apart-of : (a b : ℕ) → not (a == b) ≡ true → a ≢ b
 apart-of a b e = eqb-false a b (not-true (a == b) e)
@@ -77,7 +77,7 @@ three-parts true true c e = (refl, refl, e)
 three-parts true false c e = absurd (false≢true e)
 three-parts false b c e = absurd (false≢true e)
 
-pair : (o : Opened) (is : IsOpening o) → ArePair (the-volume o is)
+pub pair : (o : Opened) (is : IsOpening o) → ArePair (the-volume o is)
 pair o is =
     let b : Block = block_in o.block in
     let v : Volume = the-volume o is in
@@ -117,14 +117,14 @@ slot-in-sync o is slot words there = at slot (sym (ap (λ (ws : List SlotWords).
     at (suc (suc k)) e = cc
 
 -- a disk of the volume: its slot
-record IsInVolume (o : Opened) (d : ℕ) : Type 0 where
-  slot : ℕ
-  words : SlotWords
-  there : slice_get (block_words.slots (newest_of o) 0) slot ≡ Some words
-  same : words.serial ≡ serial_at o d
-  below : d < length o.serials
+pub record IsInVolume (o : Opened) (d : ℕ) : Type 0 where
+  pub slot : ℕ
+  pub words : SlotWords
+  pub there : slice_get (block_words.slots (newest_of o) 0) slot ≡ Some words
+  pub same : words.serial ≡ serial_at o d
+  pub below : d < length o.serials
 
-in-volume : (o : Opened) (d : ℕ) → has d (members_of o) ≡ true → IsInVolume o d
+pub in-volume : (o : Opened) (d : ℕ) → has d (members_of o) ≡ true → IsInVolume o d
 in-volume o d is =
     let one = in-one (disks_in_slot o) d (block_words.slots (newest_of o) 0) is in
     let both = and_parts (has d (numbers_of o)) _ (sym (has-filter d (λ k. bytes_eq one.1.serial (serial_at o k)) (numbers_of o)) ∙ one.3) in
@@ -183,7 +183,7 @@ needed-at o is i disk there = at (one-of-two i (member v 0).index (member v 1).i
     at (inl e) = sectors-at b needed i (member v 0) disk e there both.0
     at (inr e) = sectors-at b needed i (member v 1) disk e there both.1
 
-room-on : (o : Opened) (is : IsOpening o) (d : ℕ) → d < length o.serials →
+pub room-on : (o : Opened) (is : IsOpening o) (d : ℕ) → d < length o.serials →
     (block_words.shape (newest_of o) 0).pba + (block_words.shape (newest_of o) 0).rows + METADATA_SECTORS ≤ slice_index o.sizes d
 room-on o is d below =
     let own = own-record o d is below in
@@ -192,7 +192,7 @@ room-on o is d below =
 
 -- WHAT THE LAWS TAKE AS GIVEN
 
-rows-are : (o : Opened) (is : IsOpening o) → (block_words.shape (newest_of o) 0).size ≤ (block_words.shape (newest_of o) 0).rows
+pub rows-are : (o : Opened) (is : IsOpening o) → (block_words.shape (newest_of o) 0).size ≤ (block_words.shape (newest_of o) 0).rows
 rows-are o is =
     let v : Volume = the-volume o is in
     let m : IsMirror o v = mirror o is in
@@ -214,13 +214,3 @@ first-volume o asked content unsure is = record {
       };
   room = λ d target. room-on o is d (target-below o d target);
 }
-
-pub holds-content : (o : Opened) (asked : Asked) (content : ℕ → ℕ → Sector) (unsure : ℕ → ℕ → Bool) → IsOpening o → HoldsCopies o content unsure → HoldsContent (setting_of o asked content unsure)
-holds-content o asked content unsure is copies s d below sure member =
-    let v : Volume = the-volume o is in
-    let m : IsMirror o v = mirror o is in
-    let there : slice_get (block_in o.block).volumes 0 ≡ Some v = ap (λ (vs : List Volume). slice_get vs 0) m.one in
-    let inside : s < volume_size_of v = subst (λ (x : Shape). s < x.size) m.shape below in
-    let stands : slice_get (slice_index_or o.contents d []) (pba_of (first_map v) + s) ≡ Some (content 0 s) = copies 0 v there s d inside sure (in-volume o d member).below in
-    ap (λ (x : Shape). slice_index_or (slice_index_or o.contents d []) (x.pba + s) (record { 0 = [] })) m.shape
-    ∙ get_or_from_slice_get (slice_index_or o.contents d []) (pba_of (first_map v) + s) (content 0 s) (record { 0 = [] }) stands

@@ -1,13 +1,12 @@
 -- The opening of a bank of disks that holds a container of the first form, and the run that begins from it. Source:
 -- this project's own.
-use Rattle.std.specs.Prelude.{◌≡◌, ℕ, ◌+◌, ◌<◌, ◌==◌, ◌&&◌, nat_lt, Bool, true, false, List, [], length, map, filter, flat_map, slice_get, slice_index, slice_index_or, Some, None}
+use Rattle.std.specs.Prelude.{◌≡◌, ℕ, ◌<◌, ◌==◌, ◌&&◌, nat_lt, Bool, true, false, List, [], length, map, filter, flat_map, slice_get, slice_index, slice_index_or, Some, None}
 use Rattle.std.specs.List.{list_all, range_with_len}
 use Rattle.std.specs.Str.{bytes_eq}
 use Rattle.imsm_base.specs.declared.units.Sector.{Sector}
-use Rattle.imsm_base.specs.Layout.{Volume, serial_of, volume_size_of, pba_of}
+use Rattle.imsm_base.specs.Layout.{serial_of}
 use Rattle.imsm_base.specs.Parts.{block_in}
 use Rattle.imsm_base.specs.Whole.{AreApart, IsWholeDisk, anchor_place}
-use Rattle.imsm_base.specs.Volumes.{first_map}
 use Rattle.imsm_base.specs.FirstForm.{IsFirstForm}
 use Rattle.imsm_base.specs.Edits.{first_sector}
 use Rattle.array_model.specs.declared.script.Op.{Op}
@@ -84,18 +83,6 @@ pub record IsOpening (o : Opened) : Type 0 where
       → IsWholeDisk (serial_at o d) (slice_index o.sizes d) o.block (block_in o.block)
   pub anchored : (d : ℕ) → d < length o.serials
       → slice_get (slice_index_or o.contents d []) (anchor_place (slice_index o.sizes d)) ≡ Some (newest_of o).anchor
-
--- what a volume's sectors hold is what both copies hold, but for those that are unsure
-abbrev pub AreCopies : Opened → Volume → (content : ℕ → Sector) → (unsure : ℕ → Bool) → Type 0
-AreCopies o v content unsure =
-    (s d : ℕ) → s < volume_size_of v → unsure s ≡ false → d < length o.serials
-    → slice_get (slice_index_or o.contents d []) (pba_of (first_map v) + s) ≡ Some (content s)
-
--- the volumes of the block hold these contents
-abbrev pub HoldsCopies : Opened → (content : ℕ → ℕ → Sector) → (unsure : ℕ → ℕ → Bool) → Type 0
-HoldsCopies o content unsure =
-    (number : ℕ) (v : Volume) → slice_get (block_in o.block).volumes number ≡ Some v
-    → AreCopies o v (content number) (unsure number)
 
 -- an operation of a client below 16, on volume 0
 abbrev pub is_in_first : OpKind → Bool

@@ -2,13 +2,16 @@
 //! as given.
 #![tactic(auto)]
 
-ghost use Rattle.std.specs.Prelude.{◌≡◌, ℕ, Bool, true};
+ghost use Rattle.std.specs.Prelude.{◌≡◌, ℕ, Bool, true, length, map};
 ghost use Rattle.std.specs.List.{list_all};
 ghost use Rattle.imsm_base.specs.declared.units.Sector.{Sector};
 ghost use Rattle.array_model.specs.Script.{Asked};
+ghost use Rattle.array_model.specs.Blocks.{SlotWords};
+ghost use Rattle.block_words.specs.Reading.{block_words};
 ghost use Rattle.stage_machine.specs.Setting.{Renews};
 ghost use Rattle.stage_machine.specs.Opens.{AsksFirst, StandsOnAll, IsFirstVolume, HoldsContent};
-ghost use Rattle.first_opening.specs.Opened.{Opened, IsOpening, HoldsCopies, setting_of, is_first_op};
+ghost use Rattle.first_opening.specs.Opened.{Opened, IsOpening, serial_at, newest_of, members_of, setting_of, is_first_op};
+ghost use Rattle.first_opening.specs.Copies.{HoldsCopies, first_copy, differs};
 
 /// The edit of a run's rounds is that of a round: on each block that a round may be edited from, and each generation of
 /// four bytes, it changes the generation and the dirty bit of volume 0 alone, and the block stays whole.
@@ -26,9 +29,20 @@ pub fn the_volume_is_a_started_mirror()
     ensures { (o : Opened) (asked : Asked) (content : ℕ → ℕ → Sector) (unsure : ℕ → ℕ → Bool) → IsOpening o → IsFirstVolume (setting_of o asked content unsure) }
 {}
 
+/// The volume has two disks, which have the serials of its slots, in their order.
+pub fn each_slot_has_its_disk()
+    ensures serials { (o : Opened) → IsOpening o → map (serial_at o) (members_of o) ≡ map (λ (w : SlotWords). w.serial) (block_words.slots (newest_of o) 0) }
+    ensures two { (o : Opened) → IsOpening o → length (members_of o) ≡ 2 }
+{}
+
 /// Where the contents are what both copies hold, but for unsure sectors, each member holds the content.
 pub fn the_members_hold_the_content()
     ensures { (o : Opened) (asked : Asked) (content : ℕ → ℕ → Sector) (unsure : ℕ → ℕ → Bool) → IsOpening o → HoldsCopies o content unsure → HoldsContent (setting_of o asked content unsure) }
+{}
+
+/// The first disk's copies are such contents, where the sectors on which another disk differs are unsure.
+pub fn the_first_copies_are_the_content()
+    ensures { (o : Opened) → IsOpening o → HoldsCopies o (first_copy o) (differs o) }
 {}
 
 /// A script of clients below 16 and of volume 0 is one that the machine's runs take.
