@@ -2,6 +2,8 @@
 //! as given.
 #![tactic(auto)]
 
+use imsm_base::example_of_a_whole_block;
+
 ghost use Rattle.std.specs.Prelude.{◌≡◌, ℕ, Bool, true, length, map};
 ghost use Rattle.std.specs.List.{list_all};
 ghost use Rattle.imsm_base.specs.declared.units.Sector.{Sector};
@@ -12,6 +14,7 @@ ghost use Rattle.stage_machine.specs.Setting.{Renews};
 ghost use Rattle.stage_machine.specs.Opens.{AsksFirst, StandsOnAll, IsFirstVolume, HoldsContent};
 ghost use Rattle.first_opening.specs.Opened.{Opened, IsOpening, serial_at, newest_of, members_of, setting_of, is_first_op};
 ghost use Rattle.first_opening.specs.Copies.{HoldsCopies, first_copy, differs};
+ghost use Rattle.first_opening.specs.Worked.{mirror_opened};
 
 /// The edit of a run's rounds is that of a round: on each block that a round may be edited from, and each generation of
 /// four bytes, it changes the generation and the dirty bit of volume 0 alone, and the block stays whole.
@@ -49,3 +52,10 @@ pub fn the_first_copies_are_the_content()
 pub fn the_script_is_taken()
     ensures { (o : Opened) (asked : Asked) (content : ℕ → ℕ → Sector) (unsure : ℕ → ℕ → Bool) → list_all is_first_op asked.ops ≡ true → AsksFirst (setting_of o asked content unsure) }
 {}
+
+/// A bank of two disks that hold a new container of the first form opens so.
+pub fn the_worked_bank_opens()
+    ensures { IsOpening mirror_opened }
+{
+    example_of_a_whole_block();
+}
