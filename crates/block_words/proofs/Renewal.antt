@@ -83,7 +83,7 @@ unfolding block_in
 generation-at bytes = refl
 
 -- a whole block of one sector, as it is written, is read as it was
-pub sector-size : (bytes : List ℕ) (b : Block) → IsWholeBlock bytes b → length bytes ≤ 512 → number_at 4 36 (first_sector bytes) ≡ length bytes
+sector-size : (bytes : List ℕ) (b : Block) → IsWholeBlock bytes b → length bytes ≤ 512 → number_at 4 36 (first_sector bytes) ≡ length bytes
 sector-size bytes b w short =
     let least : 216 ≤ size_of b = w.sized.least in
     let given : size_of b ≡ length bytes = w.given in
@@ -99,7 +99,7 @@ sector-bytes bytes b w short =
 one_sector : (n : ℕ) → extended_count n ≡ 0 → n ≤ 512
 one_sector n alone = omega arith
 
-pub alone_in : (n : ℕ) → n ≤ 512 → extended_count n ≡ 0
+alone_in : (n : ℕ) → n ≤ 512 → extended_count n ≡ 0
 alone_in n short = omega arith
 
 -- a block of one sector has no more bytes than that

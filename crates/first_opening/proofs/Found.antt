@@ -1,23 +1,24 @@
 -- What the opening found: the newest block as it is read, and the disks that it expects.
-use Rattle.std.proofs.Common.{◌≡◌, ℕ, zero, suc, ◌-◌, ◌<◌, ◌≤◌, ◌==◌, ◌&&◌, Bool, true, false, if◌then◌else◌, List, [], ◌∷◌, length, map, slice_index, slice_index_or, nat_lt, refl, sym, ◌∙◌, ap, subst, arith}
+use Rattle.std.proofs.Common.{◌≡◌, ℕ, zero, suc, ◌-◌, ◌<◌, ◌≤◌, ◌&&◌, Bool, true, false, List, [], ◌∷◌, length, map, slice_index, slice_index_or, nat_lt, refl, sym, ◌∙◌, ap, subst, arith}
 use Rattle.std.specs.List.{list_all}
 use Rattle.std.proofs.lemmas.Bool.{and_parts, and_right, ltb-true, ltb-false, false≢true}
 use Rattle.std.proofs.lemmas.Option.{get_or_from_slice_get}
 use Rattle.imsm_base.specs.declared.units.Sector.{Sector}
 use Rattle.imsm_base.specs.Fields.{Part, number_at}
-use Rattle.imsm_base.specs.Layout.{Block, Volume, size_of, disk_count_of, serial_of, total_blocks_of}
+use Rattle.imsm_base.specs.Layout.{Block, size_of, disk_count_of, serial_of, total_blocks_of}
 use Rattle.imsm_base.specs.Parts.{block_in}
-use Rattle.imsm_base.specs.Whole.{IsWholeBlock, IsWholeDisk, anchor_place, expected_serials, extended_count}
+use Rattle.imsm_base.specs.Whole.{IsWholeBlock, IsWholeDisk, anchor_place, expected_serials}
 use Rattle.imsm_base.proofs.Apart.{length-disks}
 use Rattle.device_log.specs.Cells.{Cell, resting}
-use Rattle.array_model.specs.Blocks.{Laid, is_container}
+use Rattle.array_model.specs.Blocks.{Laid}
 use Rattle.array_model.specs.Candidates.{standing, standing_from}
 use Rattle.array_model.specs.Meaning.{bytes_of_laid, has_serial}
+use Rattle.array_model.specs.Renewal.{IsRenewable}
 use Rattle.array_model.specs.Script.{Asked}
 use Rattle.array_model.specs.Start.{Disks, disks_of}
 use Rattle.block_words.specs.Reading.{parts_of, block_words}
 use Rattle.block_words.proofs.Decided.{disk-decided}
-use Rattle.block_words.proofs.Renewal.{sector-size, sector-bytes, alone_in}
+use Rattle.block_words.proofs.Renewal.{sector-bytes, first-form}
 use Rattle.stage_machine.specs.Setting.{has}
 use Rattle.stage_machine.specs.Opens.{StandsOnAll}
 use Rattle.first_opening.specs.Opened.{Opened, IsOpening, serial_at, newest_of, numbers_of, targets_of, setting_of}
@@ -44,7 +45,7 @@ pub record IsFound (o : Opened) : Type 0 where
   pub whole : IsWholeBlock o.block (block_in o.block)
   pub bytes : bytes_of_laid (newest_of o) ≡ o.block
   pub parts : parts_of (newest_of o) ≡ block_in o.block
-  pub alone : block_words.extra (newest_of o).anchor ≡ 0
+  pub renewable : IsRenewable block_words (newest_of o)
 
 pub found : (o : Opened) → IsOpening o → IsFound o
 found o is =
@@ -54,21 +55,19 @@ found o is =
     let one_sector : size_of (block_in o.block) ≤ 512 = is.first.one_sector in
     let short : length o.block ≤ 512 = omega arith in
     let bytes : bytes_of_laid (newest_of o) ≡ o.block = sector-bytes o.block (block_in o.block) whole short in
+    let disk : IsWholeDisk (serial_at o 0) (slice_index o.sizes 0) (bytes_of_laid (newest_of o)) (block_in o.block) =
+    subst (λ (x : List ℕ). IsWholeDisk (serial_at o 0) (slice_index o.sizes 0) x (block_in o.block)) (sym bytes) (is.whole 0 some) in
     record {
       some = some;
       whole = whole;
       bytes = bytes;
       parts = ap block_in bytes;
-      alone = ap extended_count (sector-size o.block (block_in o.block) whole short) ∙ alone_in (length o.block) short;
+      renewable = first-form (newest_of o) (serial_at o 0) (slice_index o.sizes 0) (block_in o.block) refl disk is.first;
     }
 
-container-in : (vs : List Volume) (v : Volume) → vs ≡ v ∷ [] → (if length vs == 0 then false else true) ≡ true
-container-in vs v one = ap (λ (xs : List Volume). if length xs == 0 then false else true) one
-
-container : (o : Opened) → IsOpening o → is_container block_words (newest_of o) ≡ true
-container o is =
-    ap (λ (x : Block). if length x.volumes == 0 then false else true) (found o is).parts
-    ∙ container-in (block_in o.block).volumes is.first.one_volume.0 is.first.one_volume.1
+-- a round may be edited from it
+pub renewable : (o : Opened) → IsOpening o → IsRenewable block_words (newest_of o)
+renewable o is = (found o is).renewable
 
 -- it is whole on each disk
 pub whole-on : (o : Opened) (d : ℕ) → IsOpening o → d < length o.serials → block_words.is_whole (serial_at o d) (slice_index o.sizes d) (newest_of o) ≡ true
@@ -137,12 +136,12 @@ stands-on : (o : Opened) (d : ℕ) → IsOpening o → d < length o.serials → 
 stands-on o d is below =
     let n : ℕ = slice_index o.sizes d in
     let here : (bank o).opening d (anchor_place n) ≡ (newest_of o).anchor = get_or_from_slice_get (slice_index_or o.contents d []) (anchor_place n) (newest_of o).anchor (record { 0 = [] }) (is.anchored d below) in
-    anchor-stands n (λ p. resting ((bank o).opening d p)) (newest_of o).anchor here (found o is).alone
+    anchor-stands n (λ p. resting ((bank o).opening d p)) (newest_of o).anchor here (renewable o is).alone
 
 pub stands-on-all : (o : Opened) (asked : Asked) (content : ℕ → ℕ → Sector) (unsure : ℕ → ℕ → Bool) → IsOpening o → StandsOnAll (setting_of o asked content unsure)
 stands-on-all o asked content unsure is = record {
-  container = container o is;
-  alone = (found o is).alone;
+  container = (renewable o is).container;
+  alone = (renewable o is).alone;
   short = refl;
   expected = λ d. expected-is o d is;
   stands = λ d target. stands-on o d is (target-below o d target);

@@ -2,15 +2,12 @@
 use Rattle.std.proofs.Common.{◌≡◌, ◌≢◌, ℕ, zero, suc, ◌+◌, ◌<◌, ◌≤◌, ◌==◌, ◌&&◌, ◌||◌, Bool, true, false, cond, List, [], ◌∷◌, ◌++◌, filter, flat_map, slice_get, Some, refl, sym, ◌∙◌, ap, arith}
 use Rattle.std.specs.List.{range_with_len}
 use Rattle.std.proofs.lemmas.Bool.{false≢true, eqb-true, eqb-false}
+use Rattle.std.proofs.Math.Bool.{or_assoc}
 use Rattle.stage_machine.specs.Setting.{has}
-
-or-assoc : (a b c : Bool) → (a || (b || c)) ≡ ((a || b) || c)
-or-assoc true b c = refl
-or-assoc false b c = refl
 
 has-append : (d : ℕ) (xs ys : List ℕ) → has d (xs ++ ys) ≡ (has d xs || has d ys)
 has-append d [] ys = refl
-has-append d (x ∷ xs) ys = ap (λ b. (x == d) || b) (has-append d xs ys) ∙ or-assoc (x == d) (has d xs) (has d ys)
+has-append d (x ∷ xs) ys = ap (λ b. (x == d) || b) (has-append d xs ys) ∙ sym (or_assoc (x == d) (has d xs) (has d ys))
 
 has-cond : (d x : ℕ) (xs : List ℕ) (b : Bool) → has d (cond b (x ∷ xs) xs) ≡ ((b && (x == d)) || has d xs)
 has-cond d x xs true = refl

@@ -3,7 +3,7 @@ use Rattle.std.proofs.Common.{◌≡◌, ◌≢◌, ℕ, zero, suc, ◌+◌, ◌
 use Rattle.std.specs.List.{list_all, range_with_len, AllByRecursion}
 use Rattle.std.specs.Option.{option_map_or}
 use Rattle.std.proofs.lemmas.Bool.{and_parts, false≢true, false_from_ne_true}
-use Rattle.std.proofs.lemmas.List.{map-append}
+use Rattle.std.proofs.lemmas.List.{length-map, map-append}
 use Rattle.std.proofs.lemmas.Slice.Eq.{bytes_eq-Decides}
 use Rattle.imsm_base.specs.Fields.{Part}
 use Rattle.imsm_base.specs.Layout.{serial_of}
@@ -98,12 +98,8 @@ members-are o is =
       (slot-there o is (member (the-volume o is) 1) p.second, tt),
     ))
 
-length-map : {X Y : Type 0} (f : X → Y) (xs : List X) → length (map f xs) ≡ length xs
-length-map f [] = refl
-length-map f (x ∷ xs) = ap suc (length-map f xs)
-
 pub two-members : (o : Opened) → IsOpening o → length (members_of o) ≡ 2
 two-members o is =
-    sym (length-map (serial_at o) (members_of o))
+    sym (length-map (members_of o) (serial_at o))
     ∙ ap (λ (xs : List (List ℕ)). length xs) (members-are o is)
     ∙ ap (λ (ws : List SlotWords). length (map (λ (w : SlotWords). w.serial) ws)) (mirror o is).slots

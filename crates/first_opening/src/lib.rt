@@ -2,13 +2,12 @@
 //! as given.
 #![tactic(auto)]
 
-use imsm_base::example_of_a_whole_block;
-
 ghost use Rattle.std.specs.Prelude.{◌≡◌, ℕ, Bool, true, length, map};
 ghost use Rattle.std.specs.List.{list_all};
 ghost use Rattle.imsm_base.specs.declared.units.Sector.{Sector};
 ghost use Rattle.array_model.specs.Script.{Asked};
 ghost use Rattle.array_model.specs.Blocks.{SlotWords};
+ghost use Rattle.array_model.specs.Renewal.{IsRenewable};
 ghost use Rattle.block_words.specs.Reading.{block_words};
 ghost use Rattle.stage_machine.specs.Setting.{Renews};
 ghost use Rattle.stage_machine.specs.Opens.{AsksFirst, StandsOnAll, IsFirstVolume, HoldsContent};
@@ -16,10 +15,14 @@ ghost use Rattle.first_opening.specs.Opened.{Opened, IsOpening, serial_at, newes
 ghost use Rattle.first_opening.specs.Copies.{HoldsCopies, first_copy, differs};
 ghost use Rattle.first_opening.specs.Worked.{mirror_opened};
 
+use imsm_base::example_of_a_whole_block;
+
 /// The edit of a run's rounds is that of a round: on each block that a round may be edited from, and each generation of
-/// four bytes, it changes the generation and the dirty bit of volume 0 alone, and the block stays whole.
+/// four bytes, it changes the generation and the dirty bit of volume 0 alone, and the block stays whole. The newest block
+/// of an opening is such a block.
 pub fn each_round_renews()
-    ensures { (o : Opened) (asked : Asked) (content : ℕ → ℕ → Sector) (unsure : ℕ → ℕ → Bool) → Renews (setting_of o asked content unsure) }
+    ensures renewable { (o : Opened) → IsOpening o → IsRenewable block_words (newest_of o) }
+    ensures renews { (o : Opened) (asked : Asked) (content : ℕ → ℕ → Sector) (unsure : ℕ → ℕ → Bool) → Renews (setting_of o asked content unsure) }
 {}
 
 /// The newest block stands in one sector on each disk that it expects, and is whole there.
