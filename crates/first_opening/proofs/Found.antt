@@ -22,7 +22,7 @@ use Rattle.block_words.proofs.Renewal.{sector-bytes, first-form}
 use Rattle.stage_machine.specs.Setting.{has}
 use Rattle.stage_machine.specs.Opens.{StandsOnAll}
 use Rattle.first_opening.specs.Opened.{Opened, IsOpening, serial_at, newest_of, numbers_of, targets_of, setting_of}
-use Rattle.first_opening.proofs.Numbers.{has-filter, below-range, range-has}
+use Rattle.first_opening.proofs.Numbers.{has-filter, filter-all, below-range, range-has}
 use Rattle.first_opening.proofs.Records.{Speaks, speaks, expected-serial, no-empty-serial}
 
 -- THE NEWEST BLOCK
@@ -119,6 +119,12 @@ expected-is o d is = at (nat_lt d (length o.serials)) refl ∙ sym (has-filter d
 
 pub is-target : (o : Opened) (d : ℕ) → IsOpening o → d < length o.serials → has d (targets_of o) ≡ true
 is-target o d is below = sym (expected-is o d is) ∙ expects-each o d is below
+
+pub targets-are : (o : Opened) → IsOpening o → targets_of o ≡ numbers_of o
+targets-are o is =
+    filter-all (λ d. block_words.expects (newest_of o) (serial_at o d)) (numbers_of o) (
+    λ d there. expects-each o d is (omega (arith, below-range d 0 (length o.serials) there))
+    )
 
 -- WHERE IT STANDS
 

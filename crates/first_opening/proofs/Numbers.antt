@@ -1,7 +1,7 @@
 -- Lists of disk numbers, and what is in them.
 use Rattle.std.proofs.Common.{◌≡◌, ◌≢◌, ℕ, zero, suc, ◌+◌, ◌<◌, ◌≤◌, ◌==◌, ◌&&◌, ◌||◌, Bool, true, false, cond, List, [], ◌∷◌, ◌++◌, filter, flat_map, slice_get, Some, refl, sym, ◌∙◌, ap, arith}
 use Rattle.std.specs.List.{range_with_len}
-use Rattle.std.proofs.lemmas.Bool.{false≢true, eqb-true, eqb-false}
+use Rattle.std.proofs.lemmas.Bool.{false≢true, eqb-true, eqb-false, eq-eqb, or_left, or_right}
 use Rattle.std.proofs.Math.Bool.{or_assoc}
 use Rattle.stage_machine.specs.Setting.{has}
 
@@ -27,6 +27,13 @@ has-filter d p (x ∷ xs) =
     has-cond d x (filter p xs) (p x)
     ∙ ap (λ b. (p x && (x == d)) || b) (has-filter d p xs)
     ∙ kept-bools (p x) (x == d) (has d xs) (p d) (λ e. ap p (eqb-true x d e))
+
+-- a filter that all pass leaves all
+pub filter-all : (p : ℕ → Bool) (xs : List ℕ) → ((d : ℕ) → has d xs ≡ true → p d ≡ true) → filter p xs ≡ xs
+filter-all p [] passes = refl
+filter-all p (x ∷ xs) passes =
+    ap (λ b. cond b (x ∷ filter p xs) (filter p xs)) (passes x (or_left (x == x) (has x xs) (eq-eqb x x refl)))
+    ∙ ap (λ ys. x ∷ ys) (filter-all p xs (λ d there. passes d (or_right (x == d) (has d xs) there)))
 
 pub below-range : (d a n : ℕ) → has d (range_with_len a n) ≡ true → d < a + n
 below-range d a zero e = absurd (false≢true e)

@@ -11,7 +11,7 @@ ghost use Rattle.array_model.specs.Renewal.{IsRenewable};
 ghost use Rattle.block_words.specs.Reading.{block_words};
 ghost use Rattle.stage_machine.specs.Setting.{Renews};
 ghost use Rattle.stage_machine.specs.Opens.{AsksFirst, StandsOnAll, IsFirstVolume, HoldsContent};
-ghost use Rattle.first_opening.specs.Opened.{Opened, IsOpening, serial_at, newest_of, members_of, setting_of, is_first_op};
+ghost use Rattle.first_opening.specs.Opened.{Opened, IsOpening, serial_at, newest_of, numbers_of, targets_of, members_of, setting_of, is_first_op};
 ghost use Rattle.first_opening.specs.Copies.{HoldsCopies, first_copy, differs};
 ghost use Rattle.first_opening.specs.Worked.{mirror_opened};
 
@@ -25,9 +25,10 @@ pub fn each_round_renews()
     ensures renews { (o : Opened) (asked : Asked) (content : ℕ → ℕ → Sector) (unsure : ℕ → ℕ → Bool) → Renews (setting_of o asked content unsure) }
 {}
 
-/// The newest block stands in one sector on each disk that it expects, and is whole there.
+/// The newest block expects each disk of the bank, stands on each in one sector, and is whole there.
 pub fn the_newest_block_stands_on_all()
-    ensures { (o : Opened) (asked : Asked) (content : ℕ → ℕ → Sector) (unsure : ℕ → ℕ → Bool) → IsOpening o → StandsOnAll (setting_of o asked content unsure) }
+    ensures targets { (o : Opened) → IsOpening o → targets_of o ≡ numbers_of o }
+    ensures stands { (o : Opened) (asked : Asked) (content : ℕ → ℕ → Sector) (unsure : ℕ → ℕ → Bool) → IsOpening o → StandsOnAll (setting_of o asked content unsure) }
 {}
 
 /// The volume is a started mirror, whose slots are in sync, and it ends before the sectors that are kept for metadata.

@@ -1,5 +1,5 @@
-use Rattle.first_opening.proofs.Found.{stands-on-all}
+use Rattle.first_opening.proofs.Found.{targets-are, stands-on-all}
 use Rattle.first_opening.proofs.the_newest_block_stands_on_all.Goals as goal
 
 pub returns : goal.returns
-returns c = stands-on-all
+returns c = record { targets = targets-are; stands = stands-on-all }
