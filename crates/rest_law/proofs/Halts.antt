@@ -4,26 +4,24 @@ use Rattle.std.specs.Prelude.{⊤}
 use Rattle.std.specs.List.{AllByRecursion}
 use Rattle.std.proofs.lemmas.Bool.Decides.{nat_tests}
 use Rattle.imsm_base.specs.declared.units.Sector.{Sector}
-use Rattle.device_log.specs.Log.{Call}
 use Rattle.array_model.specs.declared.script.Op.{Op}
 use Rattle.array_model.specs.declared.script.OpKind.{OpKind}
 use Rattle.array_model.specs.declared.script.OpKind.TheVariants.{Write as OpWrite, Read as OpRead, Whole as OpWhole}
-use Rattle.array_model.specs.declared.journal.Event.{Event}
-use Rattle.array_model.specs.Script.{kind_at, is_of_client, sector_of}
+use Rattle.array_model.specs.Script.{kind_at, sector_of}
 use Rattle.array_model.specs.Placement.{Place}
 use Rattle.array_model.specs.Blocks.{Laid}
 use Rattle.stage_machine.specs.Setting.{Setting}
 use Rattle.stage_machine.specs.Opens.{AsksFirst}
 use Rattle.stage_machine.specs.States.{State, IsReadonly, IsReadAuto, IsClean, IsPending, IsActive, IsIdle, is_readonly, is_pending_state, next_dirty, Starts, decide}
 use Rattle.stage_machine.specs.Rounds.{Phase, Rest, Going, Ended, round_call, begin_with}
-use Rattle.stage_machine.specs.Jobs.{JobStep, Waiting, Writing, Syncing, Written, Got, Job, NoJob, Busy, Client, client_at, place_at, row_at, is_write, holds, holds_by, locked_from, is_locked, is_writing, any_writing, Need, NoNeed, Reads, Writes, Syncs, Answers, read_need, write_need, sync_need, first_need, need_of, need_call}
-use Rattle.stage_machine.specs.Machine.{Control, World, Reached, Action, Monitors, Asks, Quiets, turn, turned, turned_unless, turn_call, call_of, call_unless, moved, monitor_at, submit_write, submit_read, submit_kind, submit_unless, submit_next, meet, is_held, need_now, need_unless, client_by, job_call, quiet_if, quieted}
+use Rattle.stage_machine.specs.Jobs.{JobStep, Waiting, Writing, Syncing, Written, Got, Job, NoJob, Busy, Client, client_at, place_at, row_at, is_write, holds, locked_from, is_locked, is_writing, any_writing, Need, NoNeed, Reads, Writes, Syncs, Answers, read_need, write_need, sync_need, first_need, need_of, need_call}
+use Rattle.stage_machine.specs.Machine.{Control, World, Reached, Action, Monitors, Asks, Quiets, turn, turned_unless, turn_call, call_unless, moved, monitor_at, submit_write, submit_read, submit_kind, submit_unless, submit_next, meet, is_held, need_now, need_unless, client_by, job_call, quiet_if, quieted}
 use Rattle.stage_machine.proofs.Turns.{Has}
-use Rattle.stage_machine.proofs.Clients.{Mine, mine_reached, of_left, of_job, op_below}
+use Rattle.stage_machine.proofs.Clients.{mine_reached, of_left, of_job, op_below}
 use Rattle.answer_law.proofs.Locks.{job_of, Exclusive, exclusive_reached, holds_own}
 use Rattle.rest_law.specs.Rest.{IsStill, IsAtRest, CanEnd, HasEnded, is_whole}
 use Rattle.rest_law.proofs.Rounds.{HasTarget, Tidy, tidy_reached}
-use Rattle.rest_law.proofs.Steps.{HasMember, JobHasMember, HaveMembers, steps_reached}
+use Rattle.rest_law.proofs.Steps.{HasMember, JobHasMember, steps_reached}
 use Rattle.rest_law.proofs.Acks.{acked_all, owner, client_below}
 
 -- WHAT A SCRIPT OF ROWS ASKS
@@ -283,6 +281,6 @@ module _ (S : Setting) (asks : AsksFirst S) (can : CanEnd S) (w : World) (r : Re
   pub ended : HasEnded S w
   ended = record {
     answered = λ i lt. let own = owner S.asked.ops asks.clients i lt in acked_all S asks w r own.0 (idle_client own.0) i lt own.1;
-    quiet = phase_rest;
+    no_round = phase_rest;
     clean = clean;
   }

@@ -2,3 +2,4 @@ pub mod Rounds
 pub mod Steps
 pub mod Acks
 pub mod Halts
+pub mod Ends

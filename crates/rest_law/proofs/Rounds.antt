@@ -1,5 +1,5 @@
 -- The book is the block of the last finished round, the targets stay, and a round that goes on has a target left.
-use Rattle.std.proofs.Common.{◌≡◌, ℕ, List, [], ◌∷◌, refl, Option}
+use Rattle.std.proofs.Common.{◌≡◌, List, [], ◌∷◌, refl, Option}
 use Rattle.std.specs.Prelude.{⊤}
 use Rattle.imsm_base.specs.declared.units.Sector.{Sector}
 use Rattle.device_log.specs.Log.{Call}

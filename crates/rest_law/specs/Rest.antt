@@ -1,5 +1,5 @@
 -- Where a run rests, and what has come of its script there. Source: this project's own.
-use Rattle.std.specs.Prelude.{◌≡◌, ℕ, ◌<◌, ◌≤◌, ◌==◌, Bool, true, false, List, [], length, None}
+use Rattle.std.specs.Prelude.{◌≡◌, ℕ, ◌<◌, ◌≤◌, ◌==◌, Bool, true, false, [], length, None}
 use Rattle.std.specs.List.{AllByRecursion}
 use Rattle.imsm_base.specs.declared.units.Sector.{Sector}
 use Rattle.array_model.specs.declared.script.OpKind.{OpKind}
@@ -16,7 +16,7 @@ pub record IsStill (S : Setting) (c : Control) (a : Action) : Type 0 where
   pub calls : call_of S c a ≡ None
   pub enters : (turned S c a).events ≡ []
 
--- so does each turn that may come: the monitor's, the clients', and quiet
+-- no turn has anything to do, however its call would end: the monitor's, a client's, or quiet's
 pub record IsAtRest (S : Setting) (c : Control) : Type 0 where
   pub monitor : (x : Ended) → IsStill S c (Monitors x)
   pub clients : (k : ℕ) → k < 16 → (x : Ended) (got : Sector) → IsStill S c (Asks k x got)
@@ -27,8 +27,7 @@ is_whole (Write v s value) = false
 is_whole (Read v s) = false
 is_whole (Whole v) = true
 
--- The script reads and writes, and asks of no volume whether it is whole; a disk stands for the metadata, and one for
--- the rows.
+-- the script reads and writes rows alone, rounds have a disk to write to, and the volume has a member
 pub record CanEnd (S : Setting) : Type 0 where
   pub rows_alone : AllByRecursion (λ op. is_whole op.kind ≡ false) S.asked.ops
   pub target : 1 ≤ length S.targets
@@ -43,5 +42,5 @@ is_ack_of i _ = false
 -- volume 0 is clean
 pub record HasEnded (S : Setting) (w : World) : Type 0 where
   pub answered : (i : ℕ) → i < length S.asked.ops → has (is_ack_of i) w.journal ≡ true
-  pub quiet : w.control.round.phase ≡ Rest
+  pub no_round : w.control.round.phase ≡ Rest
   pub clean : S.start.words.is_dirty w.control.round.last 0 ≡ false

@@ -1,15 +1,26 @@
 //! Where every actor rests, the script is answered and the volume is recorded clean: proved of every run of the machine.
 #![tactic(auto)]
 
-ghost use Rattle.std.specs.Prelude.{◌≡◌, None};
+mod worked;
+
+ghost use Rattle.std.specs.Prelude.{◌≡◌, ℕ, ◌<◌, None};
+ghost use Rattle.imsm_base.specs.declared.units.Sector.{Sector};
 ghost use Rattle.stage_machine.specs.Setting.{Setting};
 ghost use Rattle.stage_machine.specs.Opens.{AsksFirst};
-ghost use Rattle.stage_machine.specs.Machine.{World, Reached};
-ghost use Rattle.rest_law.specs.Rest.{CanEnd, IsAtRest, HasEnded};
+ghost use Rattle.stage_machine.specs.Rounds.{Ended};
+ghost use Rattle.stage_machine.specs.Machine.{Control, World, Reached, Monitors, Asks, Quiets};
+ghost use Rattle.rest_law.specs.Rest.{CanEnd, IsStill, IsAtRest, HasEnded};
 
-/// No run of the machine in which no call failed comes to a halt early: where no turn of the monitor, of a client or of
-/// quiet has anything to do, each operation of the script has its answer, no round is going on, and the last finished
-/// round recorded volume 0 as clean.
+pub use worked::the_worked_run_rests;
+
+/// No run of the machine in which no call failed halts early: where no turn of the monitor, of a client or of quiet has
+/// anything to do, each operation of the script has its answer, no round is going on, and the last finished round
+/// recorded volume 0 as clean.
 pub fn rest_law()
     ensures { (S : Setting) (w : World) → AsksFirst S → CanEnd S → Reached S w → w.control.failed ≡ None → IsAtRest S w.control → HasEnded S w }
+{}
+
+/// Whether a turn has anything to do doesn't hang on how its call would end: a turn of each actor tells.
+pub fn one_end_tells()
+    ensures { (S : Setting) (c : Control) (x : Ended) (ends : ℕ → Ended) (gives : ℕ → Sector) → IsStill S c (Monitors x) → ((k : ℕ) → k < 16 → IsStill S c (Asks k (ends k) (gives k))) → IsStill S c Quiets → IsAtRest S c }
 {}
