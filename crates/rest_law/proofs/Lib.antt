@@ -3,3 +3,4 @@ pub mod Steps
 pub mod Acks
 pub mod Halts
 pub mod Ends
+pub mod Durable

@@ -7,6 +7,7 @@ use Rattle.array_model.specs.declared.script.OpKind.TheVariants.{Write, Read, Wh
 use Rattle.array_model.specs.declared.journal.Event.{Event}
 use Rattle.array_model.specs.declared.journal.Event.TheVariants.{Ack}
 use Rattle.array_model.specs.Events.{has}
+use Rattle.array_model.specs.Rounds.{DurableOnWorking}
 use Rattle.stage_machine.specs.Setting.{Setting}
 use Rattle.stage_machine.specs.Rounds.{Ended, Rest}
 use Rattle.stage_machine.specs.Machine.{Control, World, Action, Monitors, Asks, Quiets, turned, call_of}
@@ -44,3 +45,7 @@ pub record HasEnded (S : Setting) (w : World) : Type 0 where
   pub answered : (i : ℕ) → i < length S.asked.ops → has (is_ack_of i) w.journal ≡ true
   pub no_round : w.control.round.phase ≡ Rest
   pub clean : S.start.words.is_dirty w.control.round.last 0 ≡ false
+
+-- on every working member it is durable that volume 0 is clean
+abbrev pub IsDurablyClean : Setting → World → Type 0
+IsDurablyClean S w = DurableOnWorking S.start w.log w.journal (λ m. S.start.words.is_dirty m 0 ≡ false)
