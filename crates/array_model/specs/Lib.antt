@@ -1,4 +1,5 @@
 pub mod Script
+pub mod Kept
 pub mod Events
 pub mod Moments
 pub mod Placement

@@ -1,6 +1,10 @@
 //! What a run tells: events, stamped by how many device calls were made before them.
+ghost use Rattle.std.specs.Prelude.{◌≡◌, ◌<◌, [], ◌∷◌, ◌++◌, length, IfOk};
 
 use imsm_base::{DiskNo, Sector, VolNo};
+use std::alloc::Global;
+use std::marker::Model;
+use thiserror::Error;
 
 /// How an operation was answered.
 #[derive(Clone, Copy, Debug, PartialEq, Eq)]
@@ -60,4 +64,71 @@ pub enum Event {
 pub struct Entry {
     pub stamp: u64,
     pub event: Event,
+}
+
+/// Why a journal wasn't made.
+#[derive(Clone, Copy, Debug, PartialEq, Eq, Error)]
+pub enum JournalFault {
+    #[error("out of memory")]
+    Memory,
+}
+
+/// The entries of a run, oldest first. All the memory that it will ever take is taken at the start.
+#[derive(Drop)]
+pub struct Journal {
+    entries: Vec<Entry>,
+    room: u32,
+}
+
+impl Model for Journal {
+    ghost use Rattle.std.specs.Prelude.{◌≤◌, vec_capacity, vec_len};
+    ghost use Rattle.array_model.specs.Kept.{JournalState};
+
+    ghost Value = { JournalState };
+
+    ghost view = { λ j. record { entries = j.entries.items; room = j.room } };
+
+    ghost invariant = { λ j. (vec_len j.entries ≤ j.room) × (j.room ≤ vec_capacity j.entries) };
+}
+
+impl Journal {
+    /// An empty journal with room for so many entries.
+    pub fn with_room(alloc: Global, limit: u32) -> Result<Journal, JournalFault>
+        ensures { IfOk result (λ j. j ≡ record { entries = []; room = limit }) }
+    {
+        let entries = Vec::with_capacity(alloc, limit as usize).map_err(|_| JournalFault::Memory)?;
+        Ok(Journal {
+            entries,
+            room: limit,
+        })
+    }
+
+    /// The entries so far.
+    pub fn entries(&self) -> &[Entry]
+        ensures { result.now ≡ self.now.entries }
+    {
+        &self.entries
+    }
+
+    /// How many entries there are.
+    pub fn len(&self) -> usize
+        ensures { result ≡ length self.now.entries }
+    {
+        self.entries.len()
+    }
+
+    /// How many entries there can be.
+    pub fn room(&self) -> u32
+        ensures { result ≡ self.now.room }
+    {
+        self.room
+    }
+
+    /// Takes down one more entry, without memory.
+    pub fn push(&mut self, entry: Entry)
+        requires { length self.old.entries < self.old.room }
+        ensures { self.new ≡ record self.old { entries = self.old.entries ++ entry ∷ [] } }
+    {
+        self.entries.push_reserved(entry);
+    }
 }

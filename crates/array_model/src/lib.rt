@@ -9,5 +9,5 @@ pub use examples::{
     example_of_the_answer_law, example_of_the_failure_law, example_of_the_journal_form,
     example_of_the_write_gate,
 };
-pub use journal::{Answer, DeclinedKind, Entry, Event};
-pub use script::{Ask, Op, OpKind, Turn};
+pub use journal::{Answer, DeclinedKind, Entry, Event, Journal, JournalFault};
+pub use script::{Ask, Op, OpKind, Script, Turn};

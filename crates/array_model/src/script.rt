@@ -1,6 +1,9 @@
 //! What a run is asked to do: operations of clients, asks of the manager, and turns.
+ghost use Rattle.std.specs.Prelude.{◌≡◌, [], ◌∷◌, ◌++◌, OnOk, OnErr};
 
 use imsm_base::{DiskNo, VolNo};
+use std::alloc::{AllocError, Global};
+use std::marker::Model;
 
 /// What a client asks for. A write names the volume, the sector and eight bytes as one number, the first byte the
 /// highest; the sector written is these bytes 64 times over. A read names the volume and the sector. `Whole` waits
@@ -38,4 +41,81 @@ pub enum Turn {
     Fail(DiskNo),
     Kill,
     Takeover,
+}
+
+/// What a run is asked to do: the clients' operations and the asks, each numbered from 0, and the turns in their order.
+#[derive(Drop)]
+pub struct Script {
+    ops: Vec<Op>,
+    asks: Vec<Ask>,
+    turns: Vec<Turn>,
+}
+
+impl Model for Script {
+    ghost use Rattle.array_model.specs.Kept.{ScriptState};
+
+    ghost Value = { ScriptState };
+
+    ghost view = { λ s. record { ops = s.ops.items; asks = s.asks.items; turns = s.turns.items } };
+}
+
+impl Script {
+    /// A script that asks for nothing. It takes no memory.
+    pub fn new(alloc: Global) -> Script
+        ensures { result ≡ record { ops = []; asks = []; turns = [] } }
+    {
+        Script {
+            ops: Vec::new(alloc),
+            asks: Vec::new(alloc),
+            turns: Vec::new(alloc),
+        }
+    }
+
+    /// The operations, in the order of their numbers.
+    pub fn ops(&self) -> &[Op]
+        ensures { result.now ≡ self.now.ops }
+    {
+        &self.ops
+    }
+
+    /// The asks, in the order of their numbers.
+    pub fn asks(&self) -> &[Ask]
+        ensures { result.now ≡ self.now.asks }
+    {
+        &self.asks
+    }
+
+    /// The turns, the first one first.
+    pub fn turns(&self) -> &[Turn]
+        ensures { result.now ≡ self.now.turns }
+    {
+        &self.turns
+    }
+
+    /// One more operation. Where memory ends nothing changes.
+    pub fn push_op(&mut self, op: Op) -> Result<(), AllocError>
+        ensures ok { OnOk result (self.new ≡ record self.old { ops = self.old.ops ++ op ∷ [] }) }
+        ensures err { OnErr result (self.new ≡ self.old) }
+    {
+        self.ops.push(op)?;
+        Ok(())
+    }
+
+    /// One more ask. Where memory ends nothing changes.
+    pub fn push_ask(&mut self, ask: Ask) -> Result<(), AllocError>
+        ensures ok { OnOk result (self.new ≡ record self.old { asks = self.old.asks ++ ask ∷ [] }) }
+        ensures err { OnErr result (self.new ≡ self.old) }
+    {
+        self.asks.push(ask)?;
+        Ok(())
+    }
+
+    /// One more turn. Where memory ends nothing changes.
+    pub fn push_turn(&mut self, turn: Turn) -> Result<(), AllocError>
+        ensures ok { OnOk result (self.new ≡ record self.old { turns = self.old.turns ++ turn ∷ [] }) }
+        ensures err { OnErr result (self.new ≡ self.old) }
+    {
+        self.turns.push(turn)?;
+        Ok(())
+    }
 }

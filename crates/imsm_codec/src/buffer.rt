@@ -1,5 +1,5 @@
 //! A metadata block that is owned, and edited in place.
-ghost use Rattle.std.specs.Prelude.{◌≡◌, ◌+◌, ◌*◌, ◌<◌, ◌≤◌, length, IfOk};
+ghost use Rattle.std.specs.Prelude.{◌≡◌, ◌+◌, ◌*◌, ◌<◌, ◌≤◌, ◌↔◌, length, IfOk, IfErr, IsOk, OnOk, OnErr};
 ghost use Rattle.imsm_base.specs.declared.bounds.TheConstants.{MAX_BLOCK_BYTES};
 ghost use Rattle.imsm_base.specs.Fields.{number_at};
 ghost use Rattle.imsm_base.specs.Layout.{volume_count_of, size_of, checksum_of};
@@ -11,7 +11,7 @@ ghost use Rattle.imsm_codec.specs.Buffer.{parts_of};
 
 use crate::bytes::{get_u8, put_u8};
 use crate::checks::sum_of;
-use crate::fault::CodecFault;
+use crate::fault::{CodecFault, NoRoom};
 use crate::mpb::MpbRef;
 use crate::volume::volume_from;
 use imsm_base::{SECTOR_BYTES, Sector, VolNo, put_u32};
@@ -78,6 +78,26 @@ impl MpbBuf {
         ensures most { self.now.room ≤ MAX_BLOCK_BYTES }
     {
         &self.bytes
+    }
+
+    /// Makes another block equal to this one, in the room that it has.
+    pub fn copy_into(&self, other: &mut MpbBuf) -> Result<(), NoRoom>
+        ensures ok { OnOk result (other.new ≡ record other.old { bytes = self.now.bytes }) }
+        ensures err { OnErr result (other.new ≡ other.old) }
+        // It is refused exactly where it doesn't fit.
+        ensures variant { IsOk result ↔ (length self.now.bytes ≤ other.old.room) }
+        ensures told { IfErr result (λ e. (e.needed ≡ length self.now.bytes) × (e.room ≡ other.old.room)) }
+    {
+        let needed = self.bytes.len() as u16;
+        if needed > other.room {
+            return Err(NoRoom {
+                needed,
+                room: other.room,
+            });
+        }
+        other.bytes.clear();
+        other.bytes.extend_from_slice(&self.bytes).unwrap();
+        Ok(())
     }
 
     /// Sets `generation_num`.

@@ -42,3 +42,11 @@ pub enum CodecFault {
     #[error("out of memory")]
     Memory,
 }
+
+/// A block doesn't fit: the bytes that it has, and those that the room takes.
+#[derive(Clone, Copy, Debug, PartialEq, Eq, Error)]
+#[error("a block of {needed} bytes in a room of {room}")]
+pub struct NoRoom {
+    pub needed: u16,
+    pub room: u16,
+}

@@ -22,7 +22,7 @@ mod words;
 
 pub use buffer::MpbBuf;
 pub use checks::check;
-pub use fault::{CodecFault, MpbFault};
+pub use fault::{CodecFault, MpbFault, NoRoom};
 pub use first_form::is_first_form;
 pub use law::views_are_spelled;
 pub use mpb::MpbRef;

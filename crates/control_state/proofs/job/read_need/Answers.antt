@@ -1,0 +1,10 @@
+use Rattle.std.proofs.Common.{sym, ap, ◌∙◌}
+use Rattle.stage_machine.specs.Jobs.{read_need}
+use Rattle.control_state.proofs.Members.{drop_member, drop_past}
+use Rattle.control_state.proofs.job.read_need.Goals as goal
+
+pub returns-in-Some : goal.returns-in-Some
+returns-in-Some c = sym (ap read_need (drop_member c.args.members.now 0 c.in-Some.disk (sym c.in-Some.is ∙ c.member_at.ensures)))
+
+pub returns-in-None : goal.returns-in-None
+returns-in-None c = sym (ap read_need (drop_past c.args.members.now 0 (sym c.in-None.is ∙ c.member_at.ensures)))

@@ -1,0 +1,4 @@
+pub mod Book
+pub mod Seen
+pub mod Rounds
+pub mod Controls

@@ -1,0 +1,149 @@
+//! The control state of a stage, and the parts of its turns.
+ghost use Rattle.std.specs.Prelude.{◌≡◌, ◌+◌, ◌^◌, ◌<◌, None, Some, [], ◌∷◌, slice_set};
+ghost use Rattle.array_model.specs.declared.journal.Event.TheVariants.{Ack};
+ghost use Rattle.stage_machine.specs.Jobs as jobs;
+ghost use Rattle.stage_machine.specs.Jobs.{client_at};
+ghost use Rattle.stage_machine.specs.Rounds.{Ended};
+ghost use Rattle.stage_machine.specs.Machine as machine;
+ghost use Rattle.control_state.specs.declared.plan.Plan.{Plan as PlanSeen};
+ghost use Rattle.control_state.specs.Seen.{numbers, plan_setting, state_of, move_of, job_of, step_of, need_of, client_of};
+ghost use Rattle.control_state.specs.Rounds.{round_of, next_ask, gone};
+ghost use Rattle.control_state.specs.Controls.{control_of, out_of};
+
+use crate::client::{Client, has_write, is_locked};
+use crate::job::{Need, Work};
+use crate::plan::Plan;
+use crate::round::{Phase, Round};
+use crate::state::{Move, State, VOLUME, decide};
+use array_model::{Answer, Event};
+use imsm_base::DiskNo;
+
+/// How many clients there are.
+pub const CLIENTS: usize = 16;
+
+/// What a turn enters.
+#[derive(Clone, Copy, Debug, PartialEq, Eq)]
+pub enum Events {
+    Zero,
+    One(Event),
+    Two(Event, Event),
+}
+
+/// The round, the state of the volume, the clients, and the disk whose call failed.
+#[derive(Drop)]
+pub struct Control {
+    pub round: Round,
+    pub state: State,
+    pub clients: [Client; CLIENTS],
+    pub failed: Option<DiskNo>,
+}
+
+impl Control {
+    /// What the monitor does where it makes no call.
+    fn moved(&mut self, plan: &Plan, what: Move) -> Events
+        requires { self.old.round.note + 1 < 2 ^ 32 }
+        ensures { out_of plan.now self.new result ≡ machine.moved (plan_setting plan.now) (control_of plan.now self.old) (move_of what) }
+    {
+        match what {
+            Move::Nothing => Events::Zero,
+            Move::Starts => match self.round.begin(plan, self.state.next_dirty()) {
+                None => Events::Zero,
+                Some(generation) => Events::One(Event::Begin(generation)),
+            },
+            Move::Makes(to, event) => {
+                self.state = to;
+                Events::One(event)
+            }
+        }
+    }
+
+    /// The monitor's turn where its round makes no call.
+    pub fn monitor_rest(&mut self, plan: &Plan) -> Events
+        requires room { self.old.round.note + 1 < 2 ^ 32 }
+        requires rest { next_ask (round_of plan.now self.old.round).phase ≡ None }
+        ensures { (x : Ended) → out_of plan.now self.new result ≡ machine.monitor_at (plan_setting plan.now) (control_of plan.now self.old) x (round_of plan.now self.old.round).phase }
+    {
+        match self.round.phase {
+            Phase::Going(_, _) => Events::Zero,
+            Phase::Rest => {
+                let dirty = self.round.book.is_dirty();
+                self.moved(plan, decide(self.round.started, self.state, dirty, dirty))
+            }
+        }
+    }
+
+    /// The round's call went through.
+    pub fn round_went(&mut self, plan: &Plan) -> Events
+        ensures { out_of plan.now self.new result ≡ machine.put_round (control_of plan.now self.old) (gone (plan_setting plan.now) (round_of plan.now self.old.round) (round_of plan.now self.old.round).phase) }
+    {
+        match self.round.went(plan) {
+            None => Events::Zero,
+            Some(generation) => Events::One(Event::End(generation)),
+        }
+    }
+
+    /// A disk is dropped; that ends the run.
+    pub fn fail(&mut self, disk: DiskNo)
+        ensures { (p : PlanSeen) → control_of p self.new ≡ record (control_of p self.old) { failed = Some disk.0 } }
+    {
+        self.failed = Some(disk);
+    }
+
+    /// A client takes another's place.
+    pub(crate) fn put(&mut self, k: u8, client: Client)
+        requires { k < 16 }
+        ensures { (p : PlanSeen) → control_of p self.new ≡ record (control_of p self.old) { clients = slice_set (control_of p self.old).clients k (client_of p client) } }
+    {
+        self.clients[k as usize] = client;
+    }
+
+    /// The job of a client.
+    pub fn work(&self, k: u8) -> Option<Work>
+        requires { k < 16 }
+        ensures { (p : PlanSeen) → job_of (numbers p.members.items) result ≡ (client_at (control_of p self.now).clients k).job }
+    {
+        self.clients[k as usize].work
+    }
+
+    /// A client's job stands elsewhere, or is over.
+    pub fn settle(&mut self, k: u8, work: Option<Work>)
+        requires { k < 16 }
+        ensures { (p : PlanSeen) → control_of p self.new ≡ machine.put_client (control_of p self.old) k (client_at (control_of p self.old).clients k).left (job_of (numbers p.members.items) work) }
+    {
+        let client = self.clients[k as usize];
+        self.put(k, Client { work, ..client });
+    }
+
+    /// What a client's job needs now.
+    pub fn need(&self, plan: &Plan, k: u8, work: Work) -> Need
+        ensures { need_of (numbers plan.now.members.items) result ≡ machine.need_now (plan_setting plan.now) (control_of plan.now self.now) k work.op (step_of (numbers plan.now.members.items) work.step) }
+    {
+        if (plan.is_write(work.op) && self.state == State::Pending)
+            || is_locked(plan, &self.clients, plan.row(work.op), k)
+        {
+            Need::Nothing
+        } else {
+            plan.need(work)
+        }
+    }
+
+    /// A job is answered.
+    pub fn answer(&mut self, k: u8, op: u64, answer: Answer) -> Events
+        requires { k < 16 }
+        ensures { (p : PlanSeen) → out_of p self.new result ≡ record { next = machine.put_client (control_of p self.old) k (client_at (control_of p self.old).clients k).left jobs.NoJob; events = Ack op answer ∷ [] } }
+    {
+        self.settle(k, None);
+        Events::One(Event::Ack(op, answer))
+    }
+
+    /// The volume rests where no write is without an answer.
+    pub fn quiet(&mut self, plan: &Plan) -> Events
+        ensures { out_of plan.now self.new result ≡ machine.quieted (plan_setting plan.now) (control_of plan.now self.old) (state_of self.old.state) }
+    {
+        if self.state != State::Active || has_write(plan, &self.clients) {
+            return Events::Zero;
+        }
+        self.state = State::Idle;
+        Events::One(Event::Idle(VOLUME))
+    }
+}

@@ -1,0 +1,5 @@
+pub mod Repeated
+pub mod Cut
+pub mod Plain
+pub mod Told
+pub mod Apart

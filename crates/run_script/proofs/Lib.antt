@@ -1,0 +1,7 @@
+mod Numerals
+mod Cuts
+mod Readings
+mod Lines
+mod Ends
+mod Bounds
+mod WrongWords
