@@ -15,7 +15,7 @@ use Rattle.array_model.specs.Script.{Asked}
 use Rattle.block_words.specs.Reading.{block_words}
 use Rattle.stage_machine.specs.Setting.{has}
 use Rattle.stage_machine.specs.Opens.{HoldsContent}
-use Rattle.first_opening.specs.Opened.{Opened, IsOpening, newest_of, numbers_of, setting_of}
+use Rattle.first_opening.specs.Opened.{Opened, IsOpening, newest_of, block_of, numbers_of, setting_of}
 use Rattle.first_opening.specs.Copies.{HoldsCopies, AreCopies, copy_on, first_copy, differs}
 use Rattle.first_opening.proofs.Numbers.{range-has}
 use Rattle.first_opening.proofs.Volume.{IsMirror, the-volume, mirror, in-volume, room-on, rows-are}
@@ -26,7 +26,7 @@ pub holds-content : (o : Opened) (asked : Asked) (content : ℕ → ℕ → Sect
 holds-content o asked content unsure is copies s d below sure member =
     let v : Volume = the-volume o is in
     let m : IsMirror o v = mirror o is in
-    let there : slice_get (block_in o.block).volumes 0 ≡ Some v = ap (λ (vs : List Volume). slice_get vs 0) m.one in
+    let there : slice_get (block_in (block_of o)).volumes 0 ≡ Some v = ap (λ (vs : List Volume). slice_get vs 0) m.one in
     let inside : s < volume_size_of v = subst (λ (x : Shape). s < x.size) m.shape below in
     let stands : slice_get (slice_index_or o.contents d []) (pba_of (first_map v) + s) ≡ Some (content 0 s) = copies 0 v there s d inside sure (in-volume o d member).below in
     ap (λ (x : Shape). slice_index_or (slice_index_or o.contents d []) (x.pba + s) (record { 0 = [] })) m.shape

@@ -1,11 +1,12 @@
 -- What the opening found: the newest block as it is read, and the disks that it expects.
-use Rattle.std.proofs.Common.{◌≡◌, ℕ, zero, suc, ◌-◌, ◌<◌, ◌≤◌, ◌&&◌, Bool, true, false, List, [], ◌∷◌, length, map, slice_index, slice_index_or, nat_lt, refl, sym, ◌∙◌, ap, subst, arith}
+use Rattle.std.proofs.Common.{◌≡◌, ℕ, zero, suc, ◌-◌, ◌<◌, ◌≤◌, ◌&&◌, Bool, true, false, List, [], ◌∷◌, length, map, take, slice_index, slice_index_or, nat_lt, refl, sym, ◌∙◌, ap, subst, arith}
 use Rattle.std.specs.List.{list_all}
 use Rattle.std.proofs.lemmas.Bool.{and_parts, and_right, ltb-true, ltb-false, false≢true}
 use Rattle.std.proofs.lemmas.Option.{get_or_from_slice_get}
+use Rattle.std.proofs.lemmas.List.{append-nil}
 use Rattle.imsm_base.specs.declared.units.Sector.{Sector}
 use Rattle.imsm_base.specs.Fields.{Part, number_at}
-use Rattle.imsm_base.specs.Layout.{Block, size_of, disk_count_of, serial_of, total_blocks_of}
+use Rattle.imsm_base.specs.Layout.{Block, disk_count_of, serial_of, total_blocks_of}
 use Rattle.imsm_base.specs.Parts.{block_in}
 use Rattle.imsm_base.specs.Whole.{IsWholeBlock, IsWholeDisk, anchor_place, expected_serials}
 use Rattle.imsm_base.proofs.Apart.{length-disks}
@@ -18,10 +19,10 @@ use Rattle.array_model.specs.Script.{Asked}
 use Rattle.array_model.specs.Start.{Disks, disks_of}
 use Rattle.block_words.specs.Reading.{parts_of, block_words}
 use Rattle.block_words.proofs.Decided.{disk-decided}
-use Rattle.block_words.proofs.Renewal.{sector-bytes, first-form}
+use Rattle.block_words.proofs.Renewal.{first-form}
 use Rattle.stage_machine.specs.Setting.{has}
 use Rattle.stage_machine.specs.Opens.{StandsOnAll}
-use Rattle.first_opening.specs.Opened.{Opened, IsOpening, serial_at, newest_of, numbers_of, targets_of, setting_of}
+use Rattle.first_opening.specs.Opened.{Opened, IsOpening, serial_at, newest_of, block_of, numbers_of, targets_of, setting_of}
 use Rattle.first_opening.proofs.Numbers.{has-filter, filter-all, below-range, range-has}
 use Rattle.first_opening.proofs.Records.{Speaks, speaks, expected-serial, no-empty-serial}
 
@@ -36,33 +37,34 @@ count-is : (bytes : List ℕ) → number_at 1 56 bytes ≡ disk_count_of (block_
 unfolding block_in
 count-is bytes = refl
 
-pub two-records : (o : Opened) → IsOpening o → length (block_in o.block).disks ≡ 2
-two-records o is = length-disks o.block ∙ count-is o.block ∙ is.first.two_disks
+pub two-records : (o : Opened) → IsOpening o → length (block_in (block_of o)).disks ≡ 2
+two-records o is = length-disks (block_of o) ∙ count-is (block_of o) ∙ is.first.two_disks
+
+-- its bytes, as the laws read them
+pub bytes-are : (o : Opened) → bytes_of_laid (newest_of o) ≡ block_of o
+bytes-are o = ap (take (number_at 4 36 o.anchor.0)) (append-nil o.anchor.0)
 
 -- how the newest block is read
 pub record IsFound (o : Opened) : Type 0 where
   pub some : 0 < length o.serials
-  pub whole : IsWholeBlock o.block (block_in o.block)
-  pub bytes : bytes_of_laid (newest_of o) ≡ o.block
-  pub parts : parts_of (newest_of o) ≡ block_in o.block
+  pub whole : IsWholeBlock (block_of o) (block_in (block_of o))
+  pub bytes : bytes_of_laid (newest_of o) ≡ block_of o
+  pub parts : parts_of (newest_of o) ≡ block_in (block_of o)
   pub renewable : IsRenewable block_words (newest_of o)
 
 pub found : (o : Opened) → IsOpening o → IsFound o
 found o is =
-    let some : 0 < length o.serials = some-list o.serials (block_in o.block).disks (two-records o is) is.there in
-    let whole : IsWholeBlock o.block (block_in o.block) = (is.whole 0 some).whole in
-    let given : size_of (block_in o.block) ≡ length o.block = whole.given in
-    let one_sector : size_of (block_in o.block) ≤ 512 = is.first.one_sector in
-    let short : length o.block ≤ 512 = omega arith in
-    let bytes : bytes_of_laid (newest_of o) ≡ o.block = sector-bytes o.block (block_in o.block) whole short in
-    let disk : IsWholeDisk (serial_at o 0) (slice_index o.sizes 0) (bytes_of_laid (newest_of o)) (block_in o.block) =
-    subst (λ (x : List ℕ). IsWholeDisk (serial_at o 0) (slice_index o.sizes 0) x (block_in o.block)) (sym bytes) (is.whole 0 some) in
+    let some : 0 < length o.serials = some-list o.serials (block_in (block_of o)).disks (two-records o is) is.there in
+    let whole : IsWholeBlock (block_of o) (block_in (block_of o)) = (is.whole 0 some).whole in
+    let bytes : bytes_of_laid (newest_of o) ≡ block_of o = bytes-are o in
+    let disk : IsWholeDisk (serial_at o 0) (slice_index o.sizes 0) (bytes_of_laid (newest_of o)) (block_in (block_of o)) =
+    subst (λ (x : List ℕ). IsWholeDisk (serial_at o 0) (slice_index o.sizes 0) x (block_in (block_of o))) (sym bytes) (is.whole 0 some) in
     record {
       some = some;
       whole = whole;
       bytes = bytes;
       parts = ap block_in bytes;
-      renewable = first-form (newest_of o) (serial_at o 0) (slice_index o.sizes 0) (block_in o.block) refl disk is.first;
+      renewable = first-form (newest_of o) (serial_at o 0) (slice_index o.sizes 0) (block_in (block_of o)) refl disk is.first;
     }
 
 -- a round may be edited from it
@@ -81,22 +83,22 @@ whole-on o d is below =
 -- THE DISKS THAT IT EXPECTS
 
 -- the record of each disk in the table
-pub own-record : (o : Opened) (d : ℕ) → IsOpening o → d < length o.serials → Speaks (serial_at o d) (block_in o.block).disks (λ r. total_blocks_of r ≤ slice_index o.sizes d)
-own-record o d is below = speaks (serial_at o d) (block_in o.block) (λ r. total_blocks_of r ≤ slice_index o.sizes d) (is.whole d below).own_fits
+pub own-record : (o : Opened) (d : ℕ) → IsOpening o → d < length o.serials → Speaks (serial_at o d) (block_in (block_of o)).disks (λ r. total_blocks_of r ≤ slice_index o.sizes d)
+own-record o d is below = speaks (serial_at o d) (block_in (block_of o)) (λ r. total_blocks_of r ≤ slice_index o.sizes d) (is.whole d below).own_fits
 
 pub expects-each : (o : Opened) (d : ℕ) → IsOpening o → d < length o.serials → block_words.expects (newest_of o) (serial_at o d) ≡ true
 expects-each o d is below =
     let own = own-record o d is below in
     ap (λ (x : Block). has_serial (expected_serials x) (serial_at o d)) (found o is).parts
-    ∙ expected-serial (block_in o.block).disks own.index own.disk (serial_at o d) is.first.expected own.there own.same
+    ∙ expected-serial (block_in (block_of o)).disks own.index own.disk (serial_at o d) is.first.expected own.there own.same
 
 -- past the last disk there is no serial, and the block expects none
 expects-none : (o : Opened) (d : ℕ) → IsOpening o → length o.serials ≤ d → block_words.expects (newest_of o) (serial_at o d) ≡ false
 expects-none o d is past =
     let f : IsFound o = found o is in
     ap (λ (x : Block). has_serial (expected_serials x) (serial_at o d)) f.parts
-    ∙ ap (has_serial (expected_serials (block_in o.block))) (no-serial o.serials d past)
-    ∙ no-empty-serial (block_in o.block).disks f.whole.spells.parts.disks
+    ∙ ap (has_serial (expected_serials (block_in (block_of o)))) (no-serial o.serials d past)
+    ∙ no-empty-serial (block_in (block_of o)).disks f.whole.spells.parts.disks
   where
     no-serial : (serials : List (List ℕ)) (k : ℕ) → length serials ≤ k → slice_index_or serials k [] ≡ []
     no-serial [] k past = refl
@@ -141,8 +143,8 @@ anchor-stands n cells anchor here alone =
 stands-on : (o : Opened) (d : ℕ) → IsOpening o → d < length o.serials → standing block_words (slice_index o.sizes d) (λ p. resting ((bank o).opening d p)) ≡ newest_of o
 stands-on o d is below =
     let n : ℕ = slice_index o.sizes d in
-    let here : (bank o).opening d (anchor_place n) ≡ (newest_of o).anchor = get_or_from_slice_get (slice_index_or o.contents d []) (anchor_place n) (newest_of o).anchor (record { 0 = [] }) (is.anchored d below) in
-    anchor-stands n (λ p. resting ((bank o).opening d p)) (newest_of o).anchor here (renewable o is).alone
+    let here : (bank o).opening d (anchor_place n) ≡ o.anchor = get_or_from_slice_get (slice_index_or o.contents d []) (anchor_place n) o.anchor (record { 0 = [] }) (is.anchored d below) in
+    anchor-stands n (λ p. resting ((bank o).opening d p)) o.anchor here (renewable o is).alone
 
 pub stands-on-all : (o : Opened) (asked : Asked) (content : ℕ → ℕ → Sector) (unsure : ℕ → ℕ → Bool) → IsOpening o → StandsOnAll (setting_of o asked content unsure)
 stands-on-all o asked content unsure is = record {

@@ -13,7 +13,7 @@ use Rattle.imsm_base.specs.Volumes.{Member, member}
 use Rattle.array_model.specs.Blocks.{SlotWords}
 use Rattle.array_model.specs.Meaning.{has_serial, slot_words}
 use Rattle.block_words.specs.Reading.{block_words}
-use Rattle.first_opening.specs.Opened.{Opened, IsOpening, serial_at, newest_of, numbers_of, disks_in_slot, members_of}
+use Rattle.first_opening.specs.Opened.{Opened, IsOpening, serial_at, newest_of, block_of, numbers_of, disks_in_slot, members_of}
 use Rattle.first_opening.proofs.Found.{two-records}
 use Rattle.first_opening.proofs.Volume.{ArePair, the-volume, mirror, pair}
 
@@ -85,8 +85,8 @@ record-there serials (d ∷ ds) zero all below = (and_parts (has_serial serials 
 record-there serials (d ∷ ds) (suc i) all below =
     record-there serials ds i (and_parts (has_serial serials (serial_of d)) (list_all (has_serial serials) (map serial_of ds)) all).1 (omega arith)
 
-slot-there : (o : Opened) (is : IsOpening o) (m : Member) → m.index < 2 → has_serial o.serials (slot_words (block_in o.block) m).serial ≡ true
-slot-there o is m below = record-there o.serials (block_in o.block).disks m.index is.there (omega (arith, below, two-records o is))
+slot-there : (o : Opened) (is : IsOpening o) (m : Member) → m.index < 2 → has_serial o.serials (slot_words (block_in (block_of o)) m).serial ≡ true
+slot-there o is m below = record-there o.serials (block_in (block_of o)).disks m.index is.there (omega (arith, below, two-records o is))
 
 -- the members have the serials of the slots, in their order
 pub members-are : (o : Opened) → IsOpening o → map (serial_at o) (members_of o) ≡ map (λ (w : SlotWords). w.serial) (block_words.slots (newest_of o) 0)

@@ -21,7 +21,7 @@ use Rattle.array_model.specs.Script.{Asked}
 use Rattle.block_words.specs.Reading.{block_words}
 use Rattle.stage_machine.specs.Setting.{has}
 use Rattle.stage_machine.specs.Opens.{IsFirstVolume}
-use Rattle.first_opening.specs.Opened.{Opened, IsOpening, serial_at, newest_of, numbers_of, disks_in_slot, members_of, setting_of}
+use Rattle.first_opening.specs.Opened.{Opened, IsOpening, serial_at, newest_of, block_of, numbers_of, disks_in_slot, members_of, setting_of}
 use Rattle.first_opening.proofs.Numbers.{has-filter, below-range, in-one}
 use Rattle.first_opening.proofs.Records.{expected-at}
 use Rattle.first_opening.proofs.Found.{found, own-record, two-records, target-below, is-target}
@@ -30,18 +30,18 @@ use Rattle.first_opening.proofs.Found.{found, own-record, two-records, target-be
 
 -- the volume, and what is tested of it
 pub record IsMirror (o : Opened) (v : Volume) : Type 0 where
-  pub one : (block_in o.block).volumes ≡ v ∷ []
-  pub clean : IsCleanMirror (block_in o.block) v
-  pub tests : AreMirrorTests (block_in o.block) v
+  pub one : (block_in (block_of o)).volumes ≡ v ∷ []
+  pub clean : IsCleanMirror (block_in (block_of o)) v
+  pub tests : AreMirrorTests (block_in (block_of o)) v
   pub shape : block_words.shape (newest_of o) 0 ≡ shape_of v
-  pub slots : block_words.slots (newest_of o) 0 ≡ slot_words (block_in o.block) (member v 0) ∷ slot_words (block_in o.block) (member v 1) ∷ []
+  pub slots : block_words.slots (newest_of o) 0 ≡ slot_words (block_in (block_of o)) (member v 0) ∷ slot_words (block_in (block_of o)) (member v 1) ∷ []
 
 abbrev pub the-volume : (o : Opened) → IsOpening o → Volume
 the-volume o is = is.first.one_volume.0
 
 pub mirror : (o : Opened) (is : IsOpening o) → IsMirror o (the-volume o is)
 mirror o is =
-    let b : Block = block_in o.block in
+    let b : Block = block_in (block_of o) in
     let v : Volume = the-volume o is in
     let one : b.volumes ≡ v ∷ [] = is.first.one_volume.1 in
     let clean : IsCleanMirror b v = is.first.one_volume.2 in
@@ -79,7 +79,7 @@ three-parts false b c e = absurd (false≢true e)
 
 pub pair : (o : Opened) (is : IsOpening o) → ArePair (the-volume o is)
 pair o is =
-    let b : Block = block_in o.block in
+    let b : Block = block_in (block_of o) in
     let v : Volume = the-volume o is in
     let t : AreMirrorTests b v = (mirror o is).tests in
     let i : ℕ = (member v 0).index in
@@ -93,11 +93,11 @@ pair o is =
     }
 
 abbrev IsInSync : Opened → Member → Type 0
-IsInSync o m = is_in_sync (block_in o.block) m ≡ true
+IsInSync o m = is_in_sync (block_in (block_of o)) m ≡ true
 
 both-in-sync : (o : Opened) (is : IsOpening o) → IsInSync o (member (the-volume o is) 0) × IsInSync o (member (the-volume o is) 1)
 both-in-sync o is =
-    let b : Block = block_in o.block in
+    let b : Block = block_in (block_of o) in
     let v : Volume = the-volume o is in
     let m : IsMirror o v = mirror o is in
     let p : ArePair v = pair o is in
@@ -111,7 +111,7 @@ both-in-sync o is =
 slot-in-sync : (o : Opened) (is : IsOpening o) (slot : ℕ) (words : SlotWords) → slice_get (block_words.slots (newest_of o) 0) slot ≡ Some words → words.is_in_sync ≡ true
 slot-in-sync o is slot words there = at slot (sym (ap (λ (ws : List SlotWords). slice_get ws slot) (mirror o is).slots) ∙ there)
   where
-    at : (k : ℕ) → slice_get (slot_words (block_in o.block) (member (the-volume o is) 0) ∷ slot_words (block_in o.block) (member (the-volume o is) 1) ∷ []) k ≡ Some words → words.is_in_sync ≡ true
+    at : (k : ℕ) → slice_get (slot_words (block_in (block_of o)) (member (the-volume o is) 0) ∷ slot_words (block_in (block_of o)) (member (the-volume o is) 1) ∷ []) k ≡ Some words → words.is_in_sync ≡ true
     at zero e = sym (ap (λ (w : Option SlotWords). option_map_or (λ x. x.is_in_sync) w true) e) ∙ (both-in-sync o is).0
     at (suc zero) e = sym (ap (λ (w : Option SlotWords). option_map_or (λ x. x.is_in_sync) w true) e) ∙ (both-in-sync o is).1
     at (suc (suc k)) e = cc
@@ -157,12 +157,12 @@ sectors-at b needed i m disk index there e =
     ∙ ap (λ (p : Option Part). option_map_or (λ d. nat_le needed (total_blocks_of d)) p false) there
     ) ∙ e)
 
-needed-at : (o : Opened) (is : IsOpening o) (i : ℕ) (disk : Part) → slice_get (block_in o.block).disks i ≡ Some disk →
+needed-at : (o : Opened) (is : IsOpening o) (i : ℕ) (disk : Part) → slice_get (block_in (block_of o)).disks i ≡ Some disk →
     pba_of (first_map (the-volume o is)) + volume_rows (the-volume o is) + METADATA_SECTORS ≤ total_blocks_of disk
 needed-at o is i disk there = at (one-of-two i (member v 0).index (member v 1).index (omega (arith, two-records o is, slice_get_within b.disks i disk there)) p.first p.second p.apart)
   where
     b : Block
-    b = block_in o.block
+    b = block_in (block_of o)
 
     v : Volume
     v = the-volume o is

@@ -8,7 +8,7 @@ use Rattle.imsm_base.specs.Parts.{block_in}
 use Rattle.imsm_base.specs.Volumes.{first_map}
 use Rattle.array_model.specs.Blocks.{sector_eq}
 use Rattle.block_words.specs.Reading.{block_words}
-use Rattle.first_opening.specs.Opened.{Opened, newest_of, numbers_of}
+use Rattle.first_opening.specs.Opened.{Opened, newest_of, block_of, numbers_of}
 
 -- each sector of a volume that isn't unsure stands on all disks, and is the volume's content
 abbrev pub AreCopies : Opened → Volume → (content : ℕ → Sector) → (unsure : ℕ → Bool) → Type 0
@@ -19,7 +19,7 @@ AreCopies o v content unsure =
 -- so do those of each volume of the block
 abbrev pub HoldsCopies : Opened → (content : ℕ → ℕ → Sector) → (unsure : ℕ → ℕ → Bool) → Type 0
 HoldsCopies o content unsure =
-    (number : ℕ) (v : Volume) → slice_get (block_in o.block).volumes number ≡ Some v
+    (number : ℕ) (v : Volume) → slice_get (block_in (block_of o)).volumes number ≡ Some v
     → AreCopies o v (content number) (unsure number)
 
 -- sector s of a volume as disk d holds it

@@ -8,7 +8,7 @@ use Rattle.imsm_base.specs.Layout.{serial_of}
 use Rattle.imsm_base.specs.Parts.{block_in}
 use Rattle.imsm_base.specs.Whole.{AreApart, IsWholeDisk, anchor_place}
 use Rattle.imsm_base.specs.FirstForm.{IsFirstForm}
-use Rattle.imsm_base.specs.Edits.{first_sector}
+use Rattle.imsm_codec.specs.Given.{given_block}
 use Rattle.array_model.specs.declared.script.Op.{Op}
 use Rattle.array_model.specs.declared.script.OpKind.{OpKind}
 use Rattle.array_model.specs.declared.script.OpKind.TheVariants.{Write, Read, Whole}
@@ -20,19 +20,24 @@ use Rattle.block_words.specs.Reading.{block_words}
 use Rattle.block_words.specs.Renewed.{renewed}
 use Rattle.stage_machine.specs.Setting.{Setting}
 
--- the disks of a bank, by number: serials, sizes in sectors, and sectors; and the bytes of the newest block
+-- the disks of a bank, by number: serials, sizes in sectors, and sectors; and the anchor sector of the newest block, as
+-- it was read
 pub record Opened : Type 0 where
   pub serials : List (List ℕ)
   pub sizes : List ℕ
   pub contents : List (List Sector)
-  pub block : List ℕ
+  pub anchor : Sector
 
 abbrev pub serial_at : Opened → ℕ → List ℕ
 serial_at o d = slice_index_or o.serials d []
 
--- the newest block, as it lies in one sector
+-- the newest block, as it lies in its anchor alone
 abbrev pub newest_of : Opened → Laid
-newest_of o = record { anchor = record { 0 = first_sector o.block }; extended = [] }
+newest_of o = record { anchor = o.anchor; extended = [] }
+
+-- its bytes: those that the anchor begins with, as many as the block's size says
+abbrev pub block_of : Opened → List ℕ
+block_of o = given_block o.anchor.0
 
 -- THE SETTING OF A RUN
 
@@ -72,17 +77,18 @@ setting_of o asked content unsure = record {
 
 -- WHAT THE OPENING FOUND
 
--- each disk is whole by the block, which is of the first form and stands in its anchor; the disks are those of the
--- block's table, each with a serial of its own
+-- Each disk is whole by the block, which is of the first form; the disks are those of the block's table, each with a
+-- serial of its own. The anchors of all disks are one sector: they agree on the block, and on the bytes behind its end,
+-- whatever these are.
 pub record IsOpening (o : Opened) : Type 0 where
   pub sizes : o.sizes ≡ map (λ (sectors : List Sector). length sectors) o.contents
   pub apart : AreApart o.serials
-  pub there : list_all (has_serial o.serials) (map serial_of (block_in o.block).disks) ≡ true
-  pub first : IsFirstForm (block_in o.block)
+  pub there : list_all (has_serial o.serials) (map serial_of (block_in (block_of o)).disks) ≡ true
+  pub first : IsFirstForm (block_in (block_of o))
   pub whole : (d : ℕ) → d < length o.serials
-      → IsWholeDisk (serial_at o d) (slice_index o.sizes d) o.block (block_in o.block)
+      → IsWholeDisk (serial_at o d) (slice_index o.sizes d) (block_of o) (block_in (block_of o))
   pub anchored : (d : ℕ) → d < length o.serials
-      → slice_get (slice_index_or o.contents d []) (anchor_place (slice_index o.sizes d)) ≡ Some (newest_of o).anchor
+      → slice_get (slice_index_or o.contents d []) (anchor_place (slice_index o.sizes d)) ≡ Some o.anchor
 
 -- an operation of a client below 16, on volume 0
 abbrev pub is_in_first : OpKind → Bool

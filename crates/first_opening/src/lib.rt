@@ -2,16 +2,17 @@
 //! as given.
 #![tactic(auto)]
 
-ghost use Rattle.std.specs.Prelude.{◌≡◌, ℕ, Bool, true, length, map};
+ghost use Rattle.std.specs.Prelude.{◌≡◌, ℕ, Bool, true, List, length, map};
 ghost use Rattle.std.specs.List.{list_all};
 ghost use Rattle.imsm_base.specs.declared.units.Sector.{Sector};
 ghost use Rattle.array_model.specs.Script.{Asked};
 ghost use Rattle.array_model.specs.Blocks.{SlotWords};
+ghost use Rattle.array_model.specs.Meaning.{bytes_of_laid};
 ghost use Rattle.array_model.specs.Renewal.{IsRenewable};
 ghost use Rattle.block_words.specs.Reading.{block_words};
 ghost use Rattle.stage_machine.specs.Setting.{Renews};
 ghost use Rattle.stage_machine.specs.Opens.{AsksFirst, StandsOnAll, IsFirstVolume, HoldsContent};
-ghost use Rattle.first_opening.specs.Opened.{Opened, IsOpening, serial_at, newest_of, numbers_of, targets_of, members_of, setting_of, is_first_op};
+ghost use Rattle.first_opening.specs.Opened.{Opened, IsOpening, serial_at, newest_of, block_of, numbers_of, targets_of, members_of, setting_of, is_first_op};
 ghost use Rattle.first_opening.specs.Copies.{HoldsCopies, first_copy, differs};
 ghost use Rattle.first_opening.specs.Worked.{mirror_opened};
 
@@ -25,8 +26,10 @@ pub fn each_round_renews()
     ensures renews { (o : Opened) (asked : Asked) (content : ℕ → ℕ → Sector) (unsure : ℕ → ℕ → Bool) → Renews (setting_of o asked content unsure) }
 {}
 
-/// The newest block expects each disk of the bank, stands on each in one sector, and is whole there.
+/// The newest block's bytes are those that the anchor begins with. It expects each disk of the bank, stands on each in one
+/// sector, and is whole there.
 pub fn the_newest_block_stands_on_all()
+    ensures bytes { (o : Opened) → bytes_of_laid (newest_of o) ≡ block_of o }
     ensures targets { (o : Opened) → IsOpening o → targets_of o ≡ numbers_of o }
     ensures stands { (o : Opened) (asked : Asked) (content : ℕ → ℕ → Sector) (unsure : ℕ → ℕ → Bool) → IsOpening o → StandsOnAll (setting_of o asked content unsure) }
 {}
@@ -57,9 +60,10 @@ pub fn the_script_is_taken()
     ensures { (o : Opened) (asked : Asked) (content : ℕ → ℕ → Sector) (unsure : ℕ → ℕ → Bool) → list_all is_first_op asked.ops ≡ true → AsksFirst (setting_of o asked content unsure) }
 {}
 
-/// A bank of two disks that hold a new container of the first form opens so.
+/// A bank of two disks that hold a new container of the first form opens so, whatever bytes follow the block in both
+/// anchors.
 pub fn the_worked_bank_opens()
-    ensures { IsOpening mirror_opened }
+    ensures { (behind : List ℕ) → IsOpening (mirror_opened behind) }
 {
     example_of_a_whole_block();
 }
