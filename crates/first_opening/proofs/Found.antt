@@ -7,6 +7,7 @@ use Rattle.std.proofs.lemmas.List.{append-nil}
 use Rattle.imsm_base.specs.declared.units.Sector.{Sector}
 use Rattle.imsm_base.specs.Fields.{Part, number_at}
 use Rattle.imsm_base.specs.Layout.{Block, disk_count_of, serial_of, total_blocks_of}
+use Rattle.imsm_base.specs.Edits.{first_sector}
 use Rattle.imsm_base.specs.Parts.{block_in}
 use Rattle.imsm_base.specs.Whole.{IsWholeBlock, IsWholeDisk, anchor_place, expected_serials}
 use Rattle.imsm_base.proofs.Apart.{length-disks}
@@ -18,6 +19,7 @@ use Rattle.array_model.specs.Renewal.{IsRenewable}
 use Rattle.array_model.specs.Script.{Asked}
 use Rattle.array_model.specs.Start.{Disks, disks_of}
 use Rattle.block_words.specs.Reading.{parts_of, block_words}
+use Rattle.block_words.specs.Renewed.{renewed, renewed_bytes}
 use Rattle.block_words.proofs.Decided.{disk-decided}
 use Rattle.block_words.proofs.Renewal.{first-form}
 use Rattle.stage_machine.specs.Setting.{has}
@@ -43,6 +45,10 @@ two-records o is = length-disks (block_of o) ∙ count-is (block_of o) ∙ is.fi
 -- its bytes, as the laws read them
 pub bytes-are : (o : Opened) → bytes_of_laid (newest_of o) ≡ block_of o
 bytes-are o = ap (take (number_at 4 36 o.anchor.0)) (append-nil o.anchor.0)
+
+-- a round edits these bytes, and no others
+pub round-edits : (o : Opened) (g : ℕ) (y : Bool) → (renewed (newest_of o) g y).anchor.0 ≡ first_sector (renewed_bytes (block_of o) g y)
+round-edits o g y = ap (λ (bytes : List ℕ). first_sector (renewed_bytes bytes g y)) (bytes-are o)
 
 -- how the newest block is read
 pub record IsFound (o : Opened) : Type 0 where

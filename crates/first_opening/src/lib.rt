@@ -5,11 +5,13 @@
 ghost use Rattle.std.specs.Prelude.{◌≡◌, ℕ, Bool, true, List, length, map};
 ghost use Rattle.std.specs.List.{list_all};
 ghost use Rattle.imsm_base.specs.declared.units.Sector.{Sector};
+ghost use Rattle.imsm_base.specs.Edits.{first_sector};
 ghost use Rattle.array_model.specs.Script.{Asked};
 ghost use Rattle.array_model.specs.Blocks.{SlotWords};
 ghost use Rattle.array_model.specs.Meaning.{bytes_of_laid};
 ghost use Rattle.array_model.specs.Renewal.{IsRenewable};
 ghost use Rattle.block_words.specs.Reading.{block_words};
+ghost use Rattle.block_words.specs.Renewed.{renewed, renewed_bytes};
 ghost use Rattle.stage_machine.specs.Setting.{Renews};
 ghost use Rattle.stage_machine.specs.Opens.{AsksFirst, StandsOnAll, IsFirstVolume, HoldsContent};
 ghost use Rattle.first_opening.specs.Opened.{Opened, IsOpening, serial_at, newest_of, block_of, numbers_of, targets_of, members_of, setting_of, is_first_op};
@@ -20,9 +22,11 @@ use imsm_base::example_of_a_whole_block;
 
 /// The edit of a run's rounds is that of a round: on each block that a round may be edited from, and each generation of
 /// four bytes, it changes the generation and the dirty bit of volume 0 alone, and the block stays whole. The newest block
-/// of an opening is such a block.
+/// of an opening is such a block. Its edit depends on the block's bytes alone, and zeros follow them in the new anchor,
+/// whatever followed them in the old one.
 pub fn each_round_renews()
     ensures renewable { (o : Opened) → IsOpening o → IsRenewable block_words (newest_of o) }
+    ensures edited { (o : Opened) (g : ℕ) (y : Bool) → (renewed (newest_of o) g y).anchor.0 ≡ first_sector (renewed_bytes (block_of o) g y) }
     ensures renews { (o : Opened) (asked : Asked) (content : ℕ → ℕ → Sector) (unsure : ℕ → ℕ → Bool) → Renews (setting_of o asked content unsure) }
 {}
 
