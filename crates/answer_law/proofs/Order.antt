@@ -137,7 +137,7 @@ filter_none : (test : ℕ → Bool) → ((i : ℕ) → test i ≡ false) → (xs
 filter_none test none [] = refl
 filter_none test none (x ∷ xs) = rw (none x) (filter_none test none xs)
 
-due_reached : (S : Setting) → AsksFirst S → (w : World) → Reached S w → Due S w
+pub due_reached : (S : Setting) → AsksFirst S → (w : World) → Reached S w → Due S w
 due_reached S asks w opens = λ k. elim (at_start S k) [
   | inl first ↦ ap todo (sym first.1)
   | inr past ↦ ap (flat_map pair) (filter_none (is_of_client S.asked.ops k) (none_past S.asked.ops k past.0 asks.clients) (range_with_len 0 (length S.asked.ops))) ∙ ap todo (sym past.1)

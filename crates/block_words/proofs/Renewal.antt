@@ -89,7 +89,7 @@ sector-size bytes b w short =
     let given : size_of b ≡ length bytes = w.given in
     sector-number 4 36 bytes (omega arith) short ∙ size-at bytes ∙ ap size_of (block_in-spelled bytes b w.spells) ∙ given
 
-sector-bytes : (bytes : List ℕ) (b : Block) → IsWholeBlock bytes b → length bytes ≤ 512 → bytes_of_laid (record { anchor = sector_of bytes; extended = [] }) ≡ bytes
+pub sector-bytes : (bytes : List ℕ) (b : Block) → IsWholeBlock bytes b → length bytes ≤ 512 → bytes_of_laid (record { anchor = sector_of bytes; extended = [] }) ≡ bytes
 sector-bytes bytes b w short =
     ap (λ (n : ℕ). take n (first_sector bytes ++ [])) (sector-size bytes b w short)
     ∙ ap (take (length bytes)) (append-nil (first_sector bytes))

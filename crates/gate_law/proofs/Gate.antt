@@ -16,6 +16,7 @@ use Rattle.array_model.specs.Blocks.{Laid}
 use Rattle.array_model.specs.Events.{AtEach, AtEachFrom, is_live, live_at, live_from}
 use Rattle.array_model.specs.Moments.{AllBelow}
 use Rattle.array_model.specs.Candidates.{Disk}
+use Rattle.array_model.specs.Rounds.{DurableOnWorking}
 use Rattle.array_model.specs.WriteGate.{WriteGate, IsDirty, ActiveOver, AckWhileLive, IsLiveFor, DirtyWhileLive}
 use Rattle.array_model.proofs.Journals.{at_each_more, at_each_log, all_first}
 use Rattle.array_model.specs.Renewal.{FitsGeneration}
@@ -34,20 +35,24 @@ use Rattle.stage_machine.proofs.Ours.{AreOurs, IsOurs, ours_reached}
 use Rattle.stage_machine.proofs.Finished.{IsFine, fine_reached, finished_good}
 use Rattle.gate_law.proofs.Live.{live, live-append, live_reached, others_dead, safe_reached, WritesLive, writes_reached, goes_active}
 
--- DURABLY DIRTY
+-- DURABLE FACTS
 
 module _ (S : Setting) (on : StandsOnAll S) (volume : IsFirstVolume S) where
-  -- each target holds the block of the last finished round alone, and that is dirty
-  dirty_at : (log : List Call) (journal : List Entry) (last : Laid) → AllByRecursion (IsFine S) log → ((d : ℕ) → has d S.targets ≡ true → Settled S d last (disk S log d))
-      → S.start.words.is_dirty last 0 ≡ true → IsDirty S.start log journal 0
-  dirty_at log journal last fine settled dirty m finished d working =
+  -- each target holds the block of the last finished round alone, so what holds of that is durable
+  pub durable_at : (P : Laid → Type 0) (log : List Call) (journal : List Entry) (last : Laid) → AllByRecursion (IsFine S) log → ((d : ℕ) → has d S.targets ≡ true → Settled S d last (disk S log d))
+      → P last → DurableOnWorking S.start log journal P
+  durable_at P log journal last fine settled holds m finished d working =
       let same = (finished_good S volume on log journal m fine finished).expects (S.start.disks.serial d) in
       let target : has d S.targets ≡ true = sym (on.expected d) ∙ sym same ∙ working.expected in
       let it = settled d target in
       record {
         some = let is = ap (λ (xs : List Laid). length xs) it.candidates in omega (arith, is);
-        each = subst (AllByRecursion (λ m. S.start.words.is_dirty m 0 ≡ true)) (sym it.candidates) (dirty, tt);
+        each = subst (AllByRecursion P) (sym it.candidates) (holds, tt);
       }
+
+  dirty_at : (log : List Call) (journal : List Entry) (last : Laid) → AllByRecursion (IsFine S) log → ((d : ℕ) → has d S.targets ≡ true → Settled S d last (disk S log d))
+      → S.start.words.is_dirty last 0 ≡ true → IsDirty S.start log journal 0
+  dirty_at = durable_at (λ m. S.start.words.is_dirty m 0 ≡ true)
 
   -- the same of each volume that is live: there is only volume 0
   dirty_live : (log : List Call) (journal : List Entry) (last : Laid) → AllByRecursion (IsFine S) log → AreOurs journal → ((d : ℕ) → has d S.targets ≡ true → Settled S d last (disk S log d))
@@ -107,7 +112,7 @@ calm_turns S c got (gets k i left step d has need) = inr tt
 calm_turns S c got (acks k i left step answer has need) = inr ((λ b h. h), tt)
 
 -- while no round is going on, a turn's call leaves what the targets hold
-settled_of : (S : Setting) (last : Laid) (d : ℕ) (k : Disk) (phase : Phase) → phase ≡ Rest → StandsIn S last d k phase → Settled S d last k
+pub settled_of : (S : Setting) (last : Laid) (d : ℕ) (k : Disk) (phase : Phase) → phase ≡ Rest → StandsIn S last d k phase → Settled S d last k
 settled_of S last d k phase rest h = subst (StandsIn S last d k) rest h
 
 no_round : (p : Phase) (m : Laid) (step : Step) (left : List ℕ) → p ≡ Rest → p ≡ Going m step left → ⊥

@@ -1,0 +1,163 @@
+-- What the opening found: the newest block as it is read, and the disks that it expects.
+use Rattle.std.proofs.Common.{◌≡◌, ℕ, zero, suc, ◌-◌, ◌<◌, ◌≤◌, ◌&&◌, Bool, true, false, List, [], ◌∷◌, length, map, take, slice_index, slice_index_or, nat_lt, refl, sym, ◌∙◌, ap, subst, arith}
+use Rattle.std.specs.List.{list_all}
+use Rattle.std.proofs.lemmas.Bool.{and_parts, and_right, ltb-true, ltb-false, false≢true}
+use Rattle.std.proofs.lemmas.Option.{get_or_from_slice_get}
+use Rattle.std.proofs.lemmas.List.{append-nil}
+use Rattle.imsm_base.specs.declared.units.Sector.{Sector}
+use Rattle.imsm_base.specs.Fields.{Part, number_at}
+use Rattle.imsm_base.specs.Layout.{Block, disk_count_of, serial_of, total_blocks_of}
+use Rattle.imsm_base.specs.Edits.{first_sector}
+use Rattle.imsm_base.specs.Parts.{block_in}
+use Rattle.imsm_base.specs.Whole.{IsWholeBlock, IsWholeDisk, anchor_place, expected_serials}
+use Rattle.imsm_base.proofs.Apart.{length-disks}
+use Rattle.device_log.specs.Cells.{Cell, resting}
+use Rattle.array_model.specs.Blocks.{Laid}
+use Rattle.array_model.specs.Candidates.{standing, standing_from}
+use Rattle.array_model.specs.Meaning.{bytes_of_laid, has_serial}
+use Rattle.array_model.specs.Renewal.{IsRenewable}
+use Rattle.array_model.specs.Script.{Asked}
+use Rattle.array_model.specs.Start.{Disks, disks_of}
+use Rattle.block_words.specs.Reading.{parts_of, block_words}
+use Rattle.block_words.specs.Renewed.{renewed, renewed_bytes}
+use Rattle.block_words.proofs.Decided.{disk-decided}
+use Rattle.block_words.proofs.Renewal.{first-form}
+use Rattle.stage_machine.specs.Setting.{has}
+use Rattle.stage_machine.specs.Opens.{StandsOnAll}
+use Rattle.first_opening.specs.Opened.{Opened, IsOpening, serial_at, newest_of, block_of, numbers_of, targets_of, setting_of}
+use Rattle.first_opening.proofs.Numbers.{has-filter, filter-all, below-range, range-has}
+use Rattle.first_opening.proofs.Records.{Speaks, speaks, expected-serial, no-empty-serial}
+
+-- THE NEWEST BLOCK
+
+some-list : (serials : List (List ℕ)) (disks : List Part) → length disks ≡ 2 → list_all (has_serial serials) (map serial_of disks) ≡ true → 0 < length serials
+some-list (s ∷ ss) disks two there = omega arith
+some-list [] [] two there = absurd (omega arith)
+some-list [] (d ∷ ds) two there = absurd (false≢true there)
+
+count-is : (bytes : List ℕ) → number_at 1 56 bytes ≡ disk_count_of (block_in bytes)
+unfolding block_in
+count-is bytes = refl
+
+pub two-records : (o : Opened) → IsOpening o → length (block_in (block_of o)).disks ≡ 2
+two-records o is = length-disks (block_of o) ∙ count-is (block_of o) ∙ is.first.two_disks
+
+-- its bytes, as the laws read them
+pub bytes-are : (o : Opened) → bytes_of_laid (newest_of o) ≡ block_of o
+bytes-are o = ap (take (number_at 4 36 o.anchor.0)) (append-nil o.anchor.0)
+
+-- a round edits these bytes, and no others
+pub round-edits : (o : Opened) (g : ℕ) (y : Bool) → (renewed (newest_of o) g y).anchor.0 ≡ first_sector (renewed_bytes (block_of o) g y)
+round-edits o g y = ap (λ (bytes : List ℕ). first_sector (renewed_bytes bytes g y)) (bytes-are o)
+
+-- how the newest block is read
+pub record IsFound (o : Opened) : Type 0 where
+  pub some : 0 < length o.serials
+  pub whole : IsWholeBlock (block_of o) (block_in (block_of o))
+  pub bytes : bytes_of_laid (newest_of o) ≡ block_of o
+  pub parts : parts_of (newest_of o) ≡ block_in (block_of o)
+  pub renewable : IsRenewable block_words (newest_of o)
+
+pub found : (o : Opened) → IsOpening o → IsFound o
+found o is =
+    let some : 0 < length o.serials = some-list o.serials (block_in (block_of o)).disks (two-records o is) is.there in
+    let whole : IsWholeBlock (block_of o) (block_in (block_of o)) = (is.whole 0 some).whole in
+    let bytes : bytes_of_laid (newest_of o) ≡ block_of o = bytes-are o in
+    let disk : IsWholeDisk (serial_at o 0) (slice_index o.sizes 0) (bytes_of_laid (newest_of o)) (block_in (block_of o)) =
+    subst (λ (x : List ℕ). IsWholeDisk (serial_at o 0) (slice_index o.sizes 0) x (block_in (block_of o))) (sym bytes) (is.whole 0 some) in
+    record {
+      some = some;
+      whole = whole;
+      bytes = bytes;
+      parts = ap block_in bytes;
+      renewable = first-form (newest_of o) (serial_at o 0) (slice_index o.sizes 0) (block_in (block_of o)) refl disk is.first;
+    }
+
+-- a round may be edited from it
+pub renewable : (o : Opened) → IsOpening o → IsRenewable block_words (newest_of o)
+renewable o is = (found o is).renewable
+
+-- it is whole on each disk
+pub whole-on : (o : Opened) (d : ℕ) → IsOpening o → d < length o.serials → block_words.is_whole (serial_at o d) (slice_index o.sizes d) (newest_of o) ≡ true
+whole-on o d is below =
+    let f : IsFound o = found o is in
+    let n : ℕ = slice_index o.sizes d in
+    let read : IsWholeDisk (serial_at o d) n (bytes_of_laid (newest_of o)) (parts_of (newest_of o)) =
+    subst (λ (x : List ℕ). IsWholeDisk (serial_at o d) n x (block_in x)) (sym f.bytes) (is.whole d below) in
+    (disk-decided (serial_at o d) n (bytes_of_laid (newest_of o))).1 read
+
+-- THE DISKS THAT IT EXPECTS
+
+-- the record of each disk in the table
+pub own-record : (o : Opened) (d : ℕ) → IsOpening o → d < length o.serials → Speaks (serial_at o d) (block_in (block_of o)).disks (λ r. total_blocks_of r ≤ slice_index o.sizes d)
+own-record o d is below = speaks (serial_at o d) (block_in (block_of o)) (λ r. total_blocks_of r ≤ slice_index o.sizes d) (is.whole d below).own_fits
+
+pub expects-each : (o : Opened) (d : ℕ) → IsOpening o → d < length o.serials → block_words.expects (newest_of o) (serial_at o d) ≡ true
+expects-each o d is below =
+    let own = own-record o d is below in
+    ap (λ (x : Block). has_serial (expected_serials x) (serial_at o d)) (found o is).parts
+    ∙ expected-serial (block_in (block_of o)).disks own.index own.disk (serial_at o d) is.first.expected own.there own.same
+
+-- past the last disk there is no serial, and the block expects none
+expects-none : (o : Opened) (d : ℕ) → IsOpening o → length o.serials ≤ d → block_words.expects (newest_of o) (serial_at o d) ≡ false
+expects-none o d is past =
+    let f : IsFound o = found o is in
+    ap (λ (x : Block). has_serial (expected_serials x) (serial_at o d)) f.parts
+    ∙ ap (has_serial (expected_serials (block_in (block_of o)))) (no-serial o.serials d past)
+    ∙ no-empty-serial (block_in (block_of o)).disks f.whole.spells.parts.disks
+  where
+    no-serial : (serials : List (List ℕ)) (k : ℕ) → length serials ≤ k → slice_index_or serials k [] ≡ []
+    no-serial [] k past = refl
+    no-serial (s ∷ ss) zero past = absurd (omega arith)
+    no-serial (s ∷ ss) (suc k) past = no-serial ss k (omega arith)
+
+pub target-below : (o : Opened) (d : ℕ) → has d (targets_of o) ≡ true → d < length o.serials
+target-below o d target =
+    let both = and_parts (has d (numbers_of o)) _ (sym (has-filter d (λ k. block_words.expects (newest_of o) (serial_at o k)) (numbers_of o)) ∙ target) in
+    omega (arith, below-range d 0 (length o.serials) both.0)
+
+expected-is : (o : Opened) (d : ℕ) → IsOpening o → block_words.expects (newest_of o) (serial_at o d) ≡ has d (targets_of o)
+expected-is o d is = at (nat_lt d (length o.serials)) refl ∙ sym (has-filter d (λ k. block_words.expects (newest_of o) (serial_at o k)) (numbers_of o))
+  where
+    at : (b : Bool) → nat_lt d (length o.serials) ≡ b → block_words.expects (newest_of o) (serial_at o d) ≡ (has d (numbers_of o) && block_words.expects (newest_of o) (serial_at o d))
+    at true below = sym (ap (λ (b : Bool). b && block_words.expects (newest_of o) (serial_at o d)) (range-has d 0 (length o.serials) (omega arith) (omega (arith, ltb-true d (length o.serials) below))))
+    at false past =
+        let none : block_words.expects (newest_of o) (serial_at o d) ≡ false = expects-none o d is (ltb-false d (length o.serials) past) in
+        none ∙ sym (and_right (has d (numbers_of o)) (block_words.expects (newest_of o) (serial_at o d)) none)
+
+pub is-target : (o : Opened) (d : ℕ) → IsOpening o → d < length o.serials → has d (targets_of o) ≡ true
+is-target o d is below = sym (expected-is o d is) ∙ expects-each o d is below
+
+pub targets-are : (o : Opened) → IsOpening o → targets_of o ≡ numbers_of o
+targets-are o is =
+    filter-all (λ d. block_words.expects (newest_of o) (serial_at o d)) (numbers_of o) (
+    λ d there. expects-each o d is (omega (arith, below-range d 0 (length o.serials) there))
+    )
+
+-- WHERE IT STANDS
+
+abbrev bank : Opened → Disks
+bank o = disks_of o.serials o.sizes o.contents
+
+-- a block of one sector stands where its anchor does
+anchor-stands : (n : ℕ) (cells : ℕ → Cell) (anchor : Sector) → (cells (anchor_place n)).stood ≡ anchor → block_words.extra anchor ≡ 0 → standing block_words n cells ≡ record { anchor = anchor; extended = [] }
+anchor-stands n cells anchor here alone =
+    let place : ℕ = anchor_place n in
+    ap (λ (a : Sector). let m : Laid = record { anchor = a; extended = standing_from cells (place - block_words.extra a) (block_words.extra a) } in m) here
+    ∙ ap (λ (k : ℕ). let m : Laid = record { anchor = anchor; extended = standing_from cells (place - k) k } in m) alone
+
+stands-on : (o : Opened) (d : ℕ) → IsOpening o → d < length o.serials → standing block_words (slice_index o.sizes d) (λ p. resting ((bank o).opening d p)) ≡ newest_of o
+stands-on o d is below =
+    let n : ℕ = slice_index o.sizes d in
+    let here : (bank o).opening d (anchor_place n) ≡ o.anchor = get_or_from_slice_get (slice_index_or o.contents d []) (anchor_place n) o.anchor (record { 0 = [] }) (is.anchored d below) in
+    anchor-stands n (λ p. resting ((bank o).opening d p)) o.anchor here (renewable o is).alone
+
+pub stands-on-all : (o : Opened) (asked : Asked) (content : ℕ → ℕ → Sector) (unsure : ℕ → ℕ → Bool) → IsOpening o → StandsOnAll (setting_of o asked content unsure)
+stands-on-all o asked content unsure is = record {
+  container = (renewable o is).container;
+  alone = (renewable o is).alone;
+  short = refl;
+  expected = λ d. expected-is o d is;
+  stands = λ d target. stands-on o d is (target-below o d target);
+  whole = λ d target. whole-on o d is (target-below o d target);
+}

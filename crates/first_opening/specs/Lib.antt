@@ -1,0 +1,3 @@
+pub mod Opened
+pub mod Copies
+pub mod Worked

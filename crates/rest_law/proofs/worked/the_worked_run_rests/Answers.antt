@@ -1,0 +1,48 @@
+use Rattle.std.proofs.Common.{◌≡◌, ℕ, zero, suc, List, [], ◌∷◌, refl, ap, ◌∙◌, arith, None}
+use Rattle.std.specs.List.{AllByRecursion}
+use Rattle.imsm_base.specs.declared.units.Sector.{Sector}
+use Rattle.stage_machine.specs.Setting.{Setting}
+use Rattle.stage_machine.specs.Rounds.{Ended}
+use Rattle.stage_machine.specs.Jobs.{Client, no_client, client_at}
+use Rattle.stage_machine.specs.Machine.{Control, World, Action, Reached, opens, goes, happens, run, begins_at, Asks, job_call, client_by, call_unless, turned_unless}
+use Rattle.stage_machine.specs.Worked.{small_setting, the_turns}
+use Rattle.rest_law.specs.Rest.{IsStill}
+use Rattle.rest_law.proofs.worked.the_worked_run_rests.Goals as goal
+
+-- a client with nothing left and no job has nothing to do
+nothing_left : (S : Setting) (c : Control) (k : ℕ) (x : Ended) (got : Sector) → c.failed ≡ None → client_at c.clients k ≡ no_client → IsStill S c (Asks k x got)
+nothing_left S c k x got alive is = record {
+  calls = ap (call_unless S c (Asks k x got)) alive ∙ ap (λ (y : Client). job_call S c k x y.job) is;
+  enters = ap (λ f. (turned_unless S c (Asks k x got) f).events) alive ∙ ap (λ (y : Client). (client_by S c k x got y.left y.job).events) is;
+}
+
+abbrev end : Control
+end = (run small_setting (begins_at small_setting) the_turns).control
+
+reached_by : (S : Setting) (w : World) → Reached S w → (turns : List Action) → Reached S (run S w turns)
+reached_by S w r [] = r
+reached_by S w r (a ∷ more) = reached_by S (happens S w a) (goes r a) more
+
+each_done : (clients : List Client) → AllByRecursion (λ x. x ≡ no_client) clients → (k : ℕ) → client_at clients k ≡ no_client
+each_done [] done k = refl
+each_done (x ∷ xs) done zero = done.0
+each_done (x ∷ xs) done (suc k) = each_done xs done.1 k
+
+done : (k : ℕ) → client_at end.clients k ≡ no_client
+done = each_done end.clients (refl, (refl, (refl, (refl, (refl, (refl, (refl, (refl, (refl, (refl, (refl, (refl, (refl, (refl, (refl, (refl, tt))))))))))))))))
+
+pub returns-clause-can_end : goal.returns-clause-can_end
+returns-clause-can_end c = record { rows_alone = (refl, (refl, tt)); target = omega arith; member = omega arith }
+
+pub returns-clause-reached : goal.returns-clause-reached
+returns-clause-reached c = reached_by small_setting (begins_at small_setting) opens the_turns
+
+pub returns-clause-went : goal.returns-clause-went
+returns-clause-went c = refl
+
+pub returns-clause-rests : goal.returns-clause-rests
+returns-clause-rests c = record {
+  monitor = λ x. record { calls = refl; enters = refl };
+  clients = λ k below x got. nothing_left small_setting end k x got refl (done k);
+  quiet = record { calls = refl; enters = refl };
+}

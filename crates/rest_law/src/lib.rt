@@ -1,0 +1,28 @@
+//! Where every actor rests, the script is answered and the volume is recorded clean: proved of every run of the machine.
+#![tactic(auto)]
+
+mod worked;
+
+ghost use Rattle.std.specs.Prelude.{◌≡◌, ℕ, ◌<◌, None};
+ghost use Rattle.imsm_base.specs.declared.units.Sector.{Sector};
+ghost use Rattle.array_model.specs.Renewal.{FitsGeneration};
+ghost use Rattle.stage_machine.specs.Setting.{Setting, Renews};
+ghost use Rattle.stage_machine.specs.Opens.{AsksFirst, StandsOnAll, IsFirstVolume};
+ghost use Rattle.stage_machine.specs.Rounds.{Ended};
+ghost use Rattle.stage_machine.specs.Machine.{Control, World, Reached, Monitors, Asks, Quiets};
+ghost use Rattle.rest_law.specs.Rest.{CanEnd, IsStill, IsAtRest, HasEnded, IsDurablyClean};
+
+pub use worked::the_worked_run_rests;
+
+/// No run of the machine in which no call failed halts early: where no turn of the monitor, of a client or of quiet has
+/// anything to do, each operation of the script has its answer, no round is going on, and the last finished round
+/// recorded volume 0 as clean. Where the generations fit their four bytes too, that is durable on every working member.
+pub fn rest_law()
+    ensures ended { (S : Setting) (w : World) → AsksFirst S → CanEnd S → Reached S w → w.control.failed ≡ None → IsAtRest S w.control → HasEnded S w }
+    ensures durable { (S : Setting) (w : World) → AsksFirst S → CanEnd S → Renews S → StandsOnAll S → IsFirstVolume S → FitsGeneration w.control.round.note → Reached S w → w.control.failed ≡ None → IsAtRest S w.control → IsDurablyClean S w }
+{}
+
+/// Whether a turn has anything to do doesn't hang on how its call would end: a turn of each actor tells.
+pub fn one_end_tells()
+    ensures { (S : Setting) (c : Control) (x : Ended) (ends : ℕ → Ended) (gives : ℕ → Sector) → IsStill S c (Monitors x) → ((k : ℕ) → k < 16 → IsStill S c (Asks k (ends k) (gives k))) → IsStill S c Quiets → IsAtRest S c }
+{}
