@@ -5,3 +5,4 @@ pub mod Eights
 pub mod Books
 pub mod Rounded
 pub mod Submitted
+pub mod Stillness

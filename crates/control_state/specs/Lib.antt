@@ -1,5 +1,6 @@
+pub mod Begins
 pub mod Book
 pub mod Seen
 pub mod Rounds
 pub mod Controls
-pub mod Begins
+pub mod Still

@@ -10,6 +10,7 @@ mod open;
 mod plan;
 mod round;
 mod state;
+mod still;
 mod submit;
 
 pub use book::Book;

@@ -1,0 +1,11 @@
+use Rattle.std.proofs.Common.{sym, ◌∙◌}
+use Rattle.stage_machine.specs.Machine.{Monitors}
+use Rattle.control_state.specs.Seen.{plan_setting}
+use Rattle.control_state.specs.Controls.{control_of}
+use Rattle.control_state.proofs.Stillness.{live_seen, live_still}
+use Rattle.control_state.proofs.control.Control.monitor_is_still.Goals as goal
+
+pub returns-else-is_some : goal.returns-else-is_some
+returns-else-is_some c = λ x.
+    live_still (plan_setting c.args.plan.now) (control_of c.args.plan.now c.args.self.now) (Monitors x) _
+    (live_seen c.args.self.now.failed (sym c.is_some.ensures ∙ c.if-is_some.false)) (c.monitor_waits.ensures x)
