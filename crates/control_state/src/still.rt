@@ -1,4 +1,5 @@
-//! Whether an actor has nothing to do in its turn.
+//! Whether an actor has nothing to do: its turn would make no call and enter nothing. Once a call has failed, no actor has
+//! anything to do.
 ghost use Rattle.std.specs.Prelude.{◌≡◌, ◌<◌, ℕ, List, None};
 ghost use Rattle.imsm_base.specs.declared.units.Sector.{Sector as SectorBytes};
 ghost use Rattle.stage_machine.specs.Jobs.{client_at};
@@ -54,7 +55,7 @@ impl Control {
         }
     }
 
-    /// Whether the monitor has nothing to do.
+    /// Whether the monitor has nothing to do: no round goes on, none is due that has a target, and the volume's state stays.
     pub fn monitor_is_still(&self, plan: &Plan) -> bool
         ensures { (x : Ended) → result ≡ is_still (plan_setting plan.now) (control_of plan.now self.now) (machine.Monitors x) }
     {
@@ -95,7 +96,8 @@ impl Control {
         }
     }
 
-    /// Whether a client has nothing to do; one that isn't there never has.
+    /// Whether a client has nothing to do: its job is held, or it has none and submits nothing. No client stands at a place
+    /// of 16 or above, and there nothing is to do.
     pub fn client_is_still(&self, plan: &Plan, k: u8) -> bool
         ensures { (x : Ended) → (got : SectorBytes) → result ≡ is_still (plan_setting plan.now) (control_of plan.now self.now) (machine.Asks k x got) }
     {
@@ -105,7 +107,7 @@ impl Control {
         self.failed.is_some() || self.client_waits(plan, k)
     }
 
-    /// Whether there is nothing to do where no write is asked for.
+    /// Whether a quiet time changes nothing: the volume isn't active, or a write has no answer.
     pub fn quiet_is_still(&self, plan: &Plan) -> bool
         ensures { result ≡ is_still (plan_setting plan.now) (control_of plan.now self.now) machine.Quiets }
     {
