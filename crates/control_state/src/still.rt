@@ -1,6 +1,6 @@
 //! Whether an actor has nothing to do: its turn would make no call and enter nothing. Once a call has failed, no actor has
 //! anything to do.
-ghost use Rattle.std.specs.Prelude.{◌≡◌, ◌<◌, ℕ, List, None};
+ghost use Rattle.std.specs.Prelude.{◌≡◌, ◌<◌, false, ℕ, List, None};
 ghost use Rattle.imsm_base.specs.declared.units.Sector.{Sector as SectorBytes};
 ghost use Rattle.stage_machine.specs.Jobs.{client_at};
 ghost use Rattle.stage_machine.specs.Rounds.{Ended};
@@ -99,7 +99,8 @@ impl Control {
     /// Whether a client has nothing to do: its job is held, or it has none and submits nothing. No client stands at a place
     /// of 16 or above, and there nothing is to do.
     pub fn client_is_still(&self, plan: &Plan, k: u8) -> bool
-        ensures { (x : Ended) → (got : SectorBytes) → result ≡ is_still (plan_setting plan.now) (control_of plan.now self.now) (machine.Asks k x got) }
+        ensures there { result ≡ false → k < 16 }
+        ensures still { (x : Ended) → (got : SectorBytes) → result ≡ is_still (plan_setting plan.now) (control_of plan.now self.now) (machine.Asks k x got) }
     {
         if k as usize >= CLIENTS {
             return true;

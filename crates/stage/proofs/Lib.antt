@@ -4,3 +4,4 @@ pub mod Monitors
 pub mod Asking
 pub mod Staged
 pub mod Opened
+pub mod Stilled

@@ -2,3 +2,4 @@ pub mod Runs
 pub mod Asked
 pub mod Stages
 pub mod Opens
+pub mod Ends

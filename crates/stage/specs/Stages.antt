@@ -1,5 +1,5 @@
 -- What contracts see of a stage, and what a turn leaves of it. Source: this project's own.
-use Rattle.std.specs.Prelude.{◌≡◌, ℕ, ◌+◌, ◌^◌, ◌<◌, ◌≤◌, ◌||◌, nat_lt, nat_le, Bool, false, List, [], ◌++◌, length, Option, Some, None}
+use Rattle.std.specs.Prelude.{◌≡◌, ℕ, ◌+◌, ◌^◌, ◌<◌, ◌≤◌, ◌||◌, nat_lt, nat_le, Bool, true, false, List, [], ◌++◌, length, Option, Some, None, ◌⊎◌}
 use Rattle.imsm_base.specs.declared.units.Sector.{Sector}
 use Rattle.imsm_base.specs.declared.units.Level.TheVariants.{One}
 use Rattle.device_log.specs.Log.{Call}
@@ -13,6 +13,9 @@ use Rattle.stage_machine.specs.Setting.{Setting}
 use Rattle.stage_machine.specs.Machine.{Control, Action, turned, call_of, calls_after, stamped}
 use Rattle.control_state.specs.declared.plan.Plan.{Plan}
 use Rattle.control_state.specs.Seen.{numbers, no_sector}
+use Rattle.control_state.specs.Still.{is_still}
+use Rattle.stage.specs.declared.turned.Turned.{Turned}
+use Rattle.stage.specs.declared.turned.Turned.TheVariants.{Moved, Idle, JournalFull, Member}
 use Rattle.stage.specs.Runs.{FitsBank, Ran}
 
 -- What a run takes as given: the operations, the disks that a round writes to and those of the volume, where the volume
@@ -87,3 +90,14 @@ pub record Turns {B : Type 0} (a b : Seen B) (act : Action) : Type 0 where
   pub control : b.control ≡ (turned (setting_of a.given) a.control act).next
   pub calls : b.calls ≡ calls_after a.calls (call_of (setting_of a.given) a.control act)
   pub journal : b.journal ≡ a.journal ++ stamped b.calls (turned (setting_of a.given) a.control act).events
+
+-- there was something to do and room for it, and it was done
+abbrev pub Acted : {B : Type 0} → Seen B → Seen B → Action → Type 0
+Acted {B} a b act = Turns a b act × (a.control.failed ≡ None) × (is_still (setting_of a.given) a.control act ≡ false) × (is_full a ≡ false)
+
+-- how the action's turn is answered: each answer has its cause, and all but the first and a failed call leave all as it was
+abbrev pub Answered : {B : Type 0} → Seen B → Seen B → Action → Turned → Type 0
+Answered {B} a b act Moved = Acted a b act × (b.control.failed ≡ None)
+Answered {B} a b act Idle = (b ≡ a) × (a.control.failed ≡ None) × (is_still (setting_of a.given) a.control act ≡ true)
+Answered {B} a b act JournalFull = (b ≡ a) × (a.control.failed ≡ None) × (is_still (setting_of a.given) a.control act ≡ false) × (is_full a ≡ true)
+Answered {B} a b act (Member d) = (b.control.failed ≡ Some d.0) × ((b ≡ a) ⊎ Acted a b act)

@@ -4,7 +4,8 @@ ghost use Rattle.imsm_base.specs.declared.units.Sector.{Sector as SectorBytes};
 ghost use Rattle.stage_machine.specs.Rounds.{Ended};
 ghost use Rattle.stage_machine.specs.Machine.{Monitors, Asks, Quiets, stamped};
 ghost use Rattle.control_state.specs.Controls.{listed};
-ghost use Rattle.stage.specs.Stages.{Turns, is_full, setting_of};
+ghost use Rattle.stage.specs.Stages.{Answered, setting_of};
+ghost use Rattle.stage.specs.Ends.{answer_of};
 ghost use Rattle.imsm_codec.specs.Mpb.{block_bytes};
 ghost use Rattle.block_words.specs.Reading.{block_words};
 ghost use Rattle.control_state.specs.Book.{IsBook, laid_of};
@@ -17,8 +18,8 @@ use crate::monitor::monitor_part;
 use crate::open::{Opening, StageFault, control_at, plan_of};
 use crate::turned::Turned;
 use array_model::{Entry, Journal, Script};
-use control_state::{CLIENTS, Control, Events, Plan};
-use imsm_base::Sector;
+use control_state::{Control, Events, Plan};
+use imsm_base::{DiskNo, Sector};
 use member_bank::Bank;
 use std::alloc::Global;
 use std::marker::Model;
@@ -76,6 +77,16 @@ fn is_full(journal: &Journal, calls: u64) -> bool
     room < journal.len() || room - journal.len() < 4 || calls >= MAX_CALLS
 }
 
+/// How a turn that was made is answered.
+fn answer(failed: Option<DiskNo>) -> Turned
+    ensures { result ≡ answer_of failed }
+{
+    match failed {
+        None => Turned::Moved,
+        Some(disk) => Turned::Member(disk),
+    }
+}
+
 impl<B: Bank> Stage<B> {
     /// A stage over a bank, with all the memory that its turns take. Without memory the bank comes back.
     pub fn open(
@@ -116,10 +127,13 @@ impl<B: Bank> Stage<B> {
 
     /// The monitor's turn.
     pub fn monitor_turn(&mut self) -> Turned
-        ensures turn { ((x : Ended) × Turns self.old self.new (Monitors x)) ⊎ (self.new ≡ self.old) }
+        ensures { (x : Ended) × Answered self.old self.new (Monitors x) result }
     {
         if let Some(disk) = self.control.failed {
             return Turned::Member(disk);
+        }
+        if self.control.monitor_is_still(&self.plan) {
+            return Turned::Idle;
         }
         if is_full(&self.journal, self.calls) {
             return Turned::JournalFull;
@@ -131,18 +145,18 @@ impl<B: Bank> Stage<B> {
             &mut self.calls,
         );
         enter(&mut self.journal, self.calls, events);
-        Turned::Moved
+        answer(self.control.failed)
     }
 
     /// A client's turn.
     pub fn client_turn(&mut self, k: u8) -> Turned
-        ensures turn { ((x : Ended) × (got : SectorBytes) × Turns self.old self.new (Asks k x got)) ⊎ (self.new ≡ self.old) }
+        ensures { (x : Ended) × (got : SectorBytes) × Answered self.old self.new (Asks k x got) result }
     {
-        if k as usize >= CLIENTS {
-            return Turned::Idle;
-        }
         if let Some(disk) = self.control.failed {
             return Turned::Member(disk);
+        }
+        if self.control.client_is_still(&self.plan, k) {
+            return Turned::Idle;
         }
         if is_full(&self.journal, self.calls) {
             return Turned::JournalFull;
@@ -155,22 +169,25 @@ impl<B: Bank> Stage<B> {
             k,
         );
         enter(&mut self.journal, self.calls, events);
-        Turned::Moved
+        answer(self.control.failed)
     }
 
     /// The volume rests, where no write is without an answer.
     pub fn quiet(&mut self) -> Turned
-        ensures turn { Turns self.old self.new Quiets ⊎ (self.new ≡ self.old) }
+        ensures { Answered self.old self.new Quiets result }
     {
         if let Some(disk) = self.control.failed {
             return Turned::Member(disk);
+        }
+        if self.control.quiet_is_still(&self.plan) {
+            return Turned::Idle;
         }
         if is_full(&self.journal, self.calls) {
             return Turned::JournalFull;
         }
         let events = self.control.quiet(&self.plan);
         enter(&mut self.journal, self.calls, events);
-        Turned::Moved
+        answer(self.control.failed)
     }
 
     /// The bank and the journal, to which a run of the machine has led.

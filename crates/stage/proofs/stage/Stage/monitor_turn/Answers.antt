@@ -1,10 +1,13 @@
-use Rattle.std.proofs.Common.{List, ℕ, refl, sym, ap, subst, ◌∙◌, inl}
+use Rattle.std.proofs.Common.{◌≡◌, List, ℕ, true, false, None, refl, sym, ap, subst, ◌∙◌, inl}
 use Rattle.array_model.specs.Kept.{JournalState}
 use Rattle.stage_machine.specs.Machine.{Monitors}
-use Rattle.control_state.specs.Controls.{control_of, out_of}
+use Rattle.control_state.specs.Still.{is_still}
+use Rattle.control_state.specs.Controls.{control_of, out_of, failed_of}
+use Rattle.stage.specs.declared.turned.Turned.TheVariants.{Idle, JournalFull, Member}
 use Rattle.stage.specs.Runs.{run_setting}
-use Rattle.stage.specs.Stages.{IsStage, given_of, laid_at}
+use Rattle.stage.specs.Stages.{Seen, IsStage, Answered, setting_of, given_of, laid_at, is_full}
 use Rattle.stage.proofs.Staged.{stage_goes, turns_made, not_full}
+use Rattle.stage.proofs.Stilled.{still_same, answers_made}
 use Rattle.stage.proofs.stage.Stage.monitor_turn.Goals as goal
 
 pub invariant_of-self : goal.invariant_of-self
@@ -23,6 +26,30 @@ invariant_of-self g c =
     (subst (λ (j : JournalState). IsStage (run_setting p newest sizes) p sizes out.next c.monitor_part-events.new.calls j.entries j.room now) (sym c.enter.ensures)
     (stage_goes (run_setting p newest sizes) p sizes C made c.self.inside.journal.entries c.self.inside.journal.room told (Monitors m.0) out c.monitor_part-events.new.calls _ now c.self.invariant few m.1 refl))
 
+-- a call failed before
+pub returns-in-Some : goal.returns-in-Some
+returns-in-Some g c =
+    (record { went = true; stored = 0 }, subst (λ (v : Seen g.row.B.Denot). Answered v v (Monitors (record { went = true; stored = 0 })) (Member c.in-Some.disk)) c.self.view_is (ap failed_of c.in-Some.is, inl refl))
+
+-- there is nothing to do
+pub returns-then-monitor_is_still : goal.returns-then-monitor_is_still
+returns-then-monitor_is_still g c =
+    let p = c.self.inside.plan in
+    let newest = laid_at c.self.inside.newest in
+    let sizes = g.B.Bank.sizes c.self.inside.bank in
+    let C = control_of p c.self.inside.control in
+    (record { went = true; stored = 0 }, subst (λ (v : Seen g.row.B.Denot). Answered v v (Monitors (record { went = true; stored = 0 })) Idle) c.self.view_is (refl, ap failed_of c.in_default.is, sym (still_same p newest sizes C (Monitors (record { went = true; stored = 0 }))) ∙ sym (c.monitor_is_still.ensures (record { went = true; stored = 0 })) ∙ c.if-monitor_is_still.true))
+
+-- there is no room
+pub returns-then-is_full : goal.returns-then-is_full
+returns-then-is_full g c =
+    let p = c.self.inside.plan in
+    let newest = laid_at c.self.inside.newest in
+    let sizes = g.B.Bank.sizes c.self.inside.bank in
+    let C = control_of p c.self.inside.control in
+    (record { went = true; stored = 0 }, subst (λ (v : Seen g.row.B.Denot). Answered v v (Monitors (record { went = true; stored = 0 })) JournalFull) c.self.view_is (refl, ap failed_of c.in_default.is, sym (still_same p newest sizes C (Monitors (record { went = true; stored = 0 }))) ∙ sym (c.monitor_is_still.ensures (record { went = true; stored = 0 })) ∙ c.if-monitor_is_still.false, sym c.is_full.ensures ∙ c.if-is_full.true))
+
+-- the turn was made
 pub returns : goal.returns
 returns g c =
     let p = c.self.inside.plan in
@@ -34,6 +61,6 @@ returns g c =
     let out = out_of p c.monitor_part-events.new.control c.monitor_part-events.result in
     let now = g.B.Bank.log c.monitor_part-events.new.bank in
     let m = c.monitor_part-events.ensures.made newest in
-    record {
-      turn = inl (m.0, turns_made _ _ _ (Monitors m.0) out told now c.self.view_is m.1 (ap (given_of p newest) c.monitor_part-events.ensures.sizes) (ap (λ (j : JournalState). j.room) c.enter.ensures) refl (ap (λ (j : JournalState). j.entries) c.enter.ensures));
-    }
+    let cause = subst (λ (v : Seen g.row.B.Denot). (v.control.failed ≡ None) × (is_still (setting_of v.given) v.control (Monitors m.0) ≡ false) × (is_full v ≡ false)) c.self.view_is
+    (ap failed_of c.in_default.is, sym (still_same p newest sizes C (Monitors m.0)) ∙ sym (c.monitor_is_still.ensures m.0) ∙ c.if-monitor_is_still.false, sym c.is_full.ensures ∙ c.if-is_full.false) in
+    (m.0, answers_made c.args.self.now _ (Monitors m.0) c.monitor_part-events.new.control.failed c.answer.result c.answer.ensures refl (turns_made _ _ _ (Monitors m.0) out told now c.self.view_is m.1 (ap (given_of p newest) c.monitor_part-events.ensures.sizes) (ap (λ (j : JournalState). j.room) c.enter.ensures) refl (ap (λ (j : JournalState). j.entries) c.enter.ensures), cause.0, cause.1, cause.2))

@@ -1,12 +1,15 @@
-use Rattle.std.proofs.Common.{refl, sym, ap, subst, ◌∙◌, inl}
+use Rattle.std.proofs.Common.{◌≡◌, false, None, refl, sym, ap, subst, ◌∙◌, inl}
 use Rattle.array_model.specs.Kept.{JournalState}
 use Rattle.stage_machine.specs.Machine.{Quiets}
+use Rattle.control_state.specs.Still.{is_still}
 use Rattle.control_state.specs.Controls.{control_of, out_of, failed_of}
+use Rattle.stage.specs.declared.turned.Turned.TheVariants.{Idle, JournalFull, Member}
 use Rattle.stage.specs.Runs.{run_setting}
-use Rattle.stage.specs.Stages.{IsStage, laid_at}
+use Rattle.stage.specs.Stages.{Seen, IsStage, Answered, setting_of, laid_at, is_full}
 use Rattle.stage.proofs.Monitors.{makes_none}
 use Rattle.stage.proofs.Same.{quiet_same}
 use Rattle.stage.proofs.Staged.{stage_goes, turns_made, not_full}
+use Rattle.stage.proofs.Stilled.{still_same, answers_made}
 use Rattle.stage.proofs.stage.Stage.quiet.Goals as goal
 
 pub invariant_of-self : goal.invariant_of-self
@@ -23,6 +26,30 @@ invariant_of-self g c =
     subst (λ (j : JournalState). IsStage (run_setting p newest sizes) p sizes out.next made j.entries j.room told) (sym c.enter.ensures)
     (stage_goes (run_setting p newest sizes) p sizes C made c.self.inside.journal.entries c.self.inside.journal.room told Quiets out made _ told c.self.invariant few makes refl)
 
+-- a call failed before
+pub returns-in-Some : goal.returns-in-Some
+returns-in-Some g c =
+    subst (λ (v : Seen g.row.B.Denot). Answered v v (Quiets) (Member c.in-Some.disk)) c.self.view_is (ap failed_of c.in-Some.is, inl refl)
+
+-- there is nothing to do
+pub returns-then-quiet_is_still : goal.returns-then-quiet_is_still
+returns-then-quiet_is_still g c =
+    let p = c.self.inside.plan in
+    let newest = laid_at c.self.inside.newest in
+    let sizes = g.B.Bank.sizes c.self.inside.bank in
+    let C = control_of p c.self.inside.control in
+    subst (λ (v : Seen g.row.B.Denot). Answered v v (Quiets) Idle) c.self.view_is (refl, ap failed_of c.in_default.is, sym (still_same p newest sizes C (Quiets)) ∙ sym (c.quiet_is_still.ensures) ∙ c.if-quiet_is_still.true)
+
+-- there is no room
+pub returns-then-is_full : goal.returns-then-is_full
+returns-then-is_full g c =
+    let p = c.self.inside.plan in
+    let newest = laid_at c.self.inside.newest in
+    let sizes = g.B.Bank.sizes c.self.inside.bank in
+    let C = control_of p c.self.inside.control in
+    subst (λ (v : Seen g.row.B.Denot). Answered v v (Quiets) JournalFull) c.self.view_is (refl, ap failed_of c.in_default.is, sym (still_same p newest sizes C (Quiets)) ∙ sym (c.quiet_is_still.ensures) ∙ c.if-quiet_is_still.false, sym c.is_full.ensures ∙ c.if-is_full.true)
+
+-- the turn was made
 pub returns : goal.returns
 returns g c =
     let p = c.self.inside.plan in
@@ -33,6 +60,6 @@ returns g c =
     let made = c.self.inside.calls in
     let out = out_of p c.quiet-events.new.self c.quiet-events.result in
     let makes = makes_none (run_setting p newest sizes) told C made Quiets out (ap failed_of c.in_default.is) refl (c.quiet-events.ensures ∙ quiet_same p newest sizes C C.state) in
-    record {
-      turn = inl (turns_made _ _ _ Quiets out told told c.self.view_is makes refl (ap (λ (j : JournalState). j.room) c.enter.ensures) refl (ap (λ (j : JournalState). j.entries) c.enter.ensures));
-    }
+    let cause = subst (λ (v : Seen g.row.B.Denot). (v.control.failed ≡ None) × (is_still (setting_of v.given) v.control (Quiets) ≡ false) × (is_full v ≡ false)) c.self.view_is
+    (ap failed_of c.in_default.is, sym (still_same p newest sizes C (Quiets)) ∙ sym (c.quiet_is_still.ensures) ∙ c.if-quiet_is_still.false, sym c.is_full.ensures ∙ c.if-is_full.false) in
+    answers_made c.args.self.now _ (Quiets) c.quiet-events.new.self.failed c.answer.result c.answer.ensures refl (turns_made _ _ _ Quiets out told told c.self.view_is makes refl (ap (λ (j : JournalState). j.room) c.enter.ensures) refl (ap (λ (j : JournalState). j.entries) c.enter.ensures), cause.0, cause.1, cause.2)
