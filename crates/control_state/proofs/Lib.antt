@@ -6,4 +6,3 @@ pub mod Books
 pub mod Rounded
 pub mod Submitted
 pub mod Stillness
-pub mod Unmoved
