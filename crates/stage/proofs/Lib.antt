@@ -5,3 +5,4 @@ pub mod Asking
 pub mod Staged
 pub mod Opened
 pub mod Stilled
+pub mod Driven

@@ -20,7 +20,7 @@ use Rattle.stage.specs.Runs.{Makes as Made}
 use Rattle.stage.specs.Stages.{Seen, IsStage, Turns, setting_of}
 use Rattle.stage.proofs.Going.{goes_on}
 
-length-stamped : (n : ℕ) (es : List Event) → length (stamped n es) ≡ length es
+pub length-stamped : (n : ℕ) (es : List Event) → length (stamped n es) ≡ length es
 length-stamped n [] = refl
 length-stamped n (e ∷ es) = ap (λ (k : ℕ). suc k) (length-stamped n es)
 

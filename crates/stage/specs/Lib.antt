@@ -3,3 +3,4 @@ pub mod Asked
 pub mod Stages
 pub mod Opens
 pub mod Ends
+pub mod Drives

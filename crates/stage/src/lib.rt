@@ -3,11 +3,14 @@
 
 mod calls;
 mod client;
+mod drive;
+mod ends;
 mod monitor;
 mod open;
 mod stage;
 mod turned;
 
+pub use ends::{Cycle, DriveEnd};
 pub use open::{Opening, StageFault};
 pub use stage::{MAX_CALLS, Stage};
 pub use turned::Turned;
