@@ -1,5 +1,5 @@
 -- How many turns in a row end, and what they spend. Source: this project's own.
-use Rattle.std.specs.Prelude.{◌≡◌, ℕ, ◌+◌, ◌^◌, ◌<◌, ◌≤◌, Bool, true, false, List, length, Some, None, ⊤}
+use Rattle.std.specs.Prelude.{◌≡◌, ℕ, ◌+◌, ◌^◌, ◌<◌, ◌≤◌, true, length, Some, None, ⊤}
 use Rattle.imsm_base.specs.declared.units.Sector.{Sector}
 use Rattle.stage_machine.specs.Rounds.{Ended}
 use Rattle.stage_machine.specs.Machine.{Monitors, Asks, Quiets}
@@ -55,10 +55,29 @@ TurnEnds {B} a Idle = ⊤
 TurnEnds {B} a JournalFull = is_full a ≡ true
 TurnEnds {B} a (Failed d) = a.control.failed ≡ Some d.0
 
--- how a cycle of turns leaves a stage: nobody had anything to do, and nothing changed; or something was done
+-- the causes of an early end, of a cycle
+abbrev pub CycleEnds : {B : Type 0} → Seen B → DriveEnd → Type 0
+CycleEnds {B} a Over = ⊥
+CycleEnds {B} a Full = is_full a ≡ true
+CycleEnds {B} a (Member d) = a.control.failed ≡ Some d.0
+
+-- something was done, within the budget
+abbrev pub Spends : {B : Type 0} → Seen B → Seen B → Type 0
+Spends {B} a b = (spent a < budget a) × (spent a < spent b)
+
+-- how a turn of each client leaves a stage: none had anything to do, and nothing changed; or something was done
+abbrev pub ClientsCycled : {B : Type 0} → Seen B → Seen B → Cycle → Type 0
+ClientsCycled {B} a b Rested = (b ≡ a) × ClientsStill b 16
+ClientsCycled {B} a b Went = Spends a b
+ClientsCycled {B} a b (Ends end) = CycleEnds b end
+
+-- the same of a turn of the monitor and of each client
 abbrev pub Cycled : {B : Type 0} → Seen B → Seen B → Cycle → Type 0
 Cycled {B} a b Rested = (b ≡ a) × (b.control.failed ≡ None) × MonitorStill b × ClientsStill b 16
-Cycled {B} a b Went = (spent a < budget a) × (spent a < spent b)
-Cycled {B} a b (Ends Over) = ⊥
-Cycled {B} a b (Ends Full) = is_full b ≡ true
-Cycled {B} a b (Ends (Member d)) = b.control.failed ≡ Some d.0
+Cycled {B} a b Went = Spends a b
+Cycled {B} a b (Ends end) = CycleEnds b end
+
+abbrev pub went_after : Cycle → Cycle
+went_after Rested = Went
+went_after Went = Went
+went_after (Ends end) = Ends end

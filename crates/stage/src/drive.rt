@@ -1,10 +1,13 @@
 //! Several turns in a row.
-ghost use Rattle.stage.specs.Drives.{Follows, EndsBy, TurnEnds};
+ghost use Rattle.std.specs.Prelude.{◌≡◌, None};
+ghost use Rattle.stage.specs.declared.ends.DriveEnd.TheVariants.{Over};
+ghost use Rattle.stage.specs.Drives.{Follows, EndsBy, TurnEnds, Cycled, ClientsCycled, AllStill, went_after};
 
-use crate::ends::DriveEnd;
+use crate::ends::{Cycle, DriveEnd};
 use crate::stage::Stage;
 use crate::turned::Turned;
 use array_model::Turn;
+use control_state::CLIENTS;
 use imsm_base::VolNo;
 use member_bank::Bank;
 
@@ -35,5 +38,67 @@ impl<B: Bank> Stage<B> {
             }
         }
         DriveEnd::Over
+    }
+
+    /// A turn of each client.
+    fn clients_cycle(&mut self) -> Cycle
+        requires { self.old.control.failed ≡ None }
+        ensures follows { Follows self.old self.new }
+        ensures cycled { ClientsCycled self.old self.new result }
+    {
+        let mut went = false;
+        for k in 0..CLIENTS {
+            match self.client_turn(k as u8) {
+                Turned::Moved => went = true,
+                Turned::Idle => {}
+                Turned::JournalFull => return Cycle::Ends(DriveEnd::Full),
+                Turned::Member(disk) => return Cycle::Ends(DriveEnd::Member(disk)),
+            }
+        }
+        if went { Cycle::Went } else { Cycle::Rested }
+    }
+
+    /// A turn of the monitor and of each client.
+    fn cycle(&mut self) -> Cycle
+        ensures follows { Follows self.old self.new }
+        ensures cycled { Cycled self.old self.new result }
+    {
+        match self.monitor_turn() {
+            Turned::Moved => went_on(self.clients_cycle()),
+            Turned::Idle => self.clients_cycle(),
+            Turned::JournalFull => Cycle::Ends(DriveEnd::Full),
+            Turned::Member(disk) => Cycle::Ends(DriveEnd::Member(disk)),
+        }
+    }
+
+    /// Cycles of the monitor and of each client, and a quiet time where a whole cycle has nothing to do, until that too
+    /// changes nothing.
+    pub fn drain(&mut self) -> DriveEnd
+        ensures follows { Follows self.old self.new }
+        ensures ends { EndsBy self.new result }
+        ensures over { result ≡ Over → AllStill self.new }
+    {
+        loop {
+            match self.cycle() {
+                Cycle::Went => {}
+                Cycle::Ends(end) => return end,
+                Cycle::Rested => match self.quiet() {
+                    Turned::Moved => {}
+                    Turned::Idle => return DriveEnd::Over,
+                    Turned::JournalFull => return DriveEnd::Full,
+                    Turned::Member(disk) => return DriveEnd::Member(disk),
+                },
+            }
+        }
+    }
+}
+
+/// A cycle in which something was done before.
+fn went_on(cycle: Cycle) -> Cycle
+    ensures { result ≡ went_after cycle }
+{
+    match cycle {
+        Cycle::Rested | Cycle::Went => Cycle::Went,
+        Cycle::Ends(end) => Cycle::Ends(end),
     }
 }

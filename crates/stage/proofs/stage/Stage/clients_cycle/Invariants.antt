@@ -1,0 +1,11 @@
+use Rattle.std.proofs.Common.{◌≡◌, true, false, None}
+use Rattle.stage.specs.Drives.{Follows, Spends, ClientsStill}
+use Rattle.stage.proofs.stage.Stage.clients_cycle.Given as goal
+
+abbrev pub invariant-loop-k : goal.invariant-loop-k
+invariant-loop-k g l = record {
+  follows : Follows l.fn.self l.self;
+  live : l.self.control.failed ≡ None;
+  spends : l.went ≡ true → Spends l.fn.self l.self;
+  rests : l.went ≡ false → (l.self ≡ l.fn.self) × ClientsStill l.self l.k;
+}
