@@ -21,7 +21,7 @@ use imsm_codec::{CodecFault, MpbBuf, MpbRef};
 use std::alloc::Global;
 
 impl Book {
-    /// A copy of a whole block of one sector, as it was read in a sector.
+    /// A copy of a whole block of one sector, with the sector that it was read from.
     pub fn copy_of(alloc: Global, mpb: &MpbRef<'_>, anchor: Sector) -> Result<Book, CodecFault>
         requires book { IsBook (block_bytes mpb.now) }
         requires there { IsBlockOf anchor (block_bytes mpb.now) }

@@ -21,8 +21,9 @@ pub enum StageFault {
     Memory,
 }
 
-/// What was found on the disks of a bank: the newest block and the sector that it was read in, the disks that it expects in the order of their numbers, the
-/// disks of its volume in the order of its slots, the first sector of the volume on each, and its size in sectors.
+/// What was found on the disks of a bank: the newest block, and the sector that it was read from, whatever follows the
+/// block there; the disks that it expects in the order of their numbers; the disks of its volume in the order of its
+/// slots; the first sector of the volume on each, and its size in sectors.
 #[derive(Drop)]
 pub struct Opening<'a> {
     pub block: MpbRef<'a>,
@@ -61,7 +62,7 @@ pub(crate) fn plan_of(
     })
 }
 
-/// Where a run over a block begins that was read in a sector.
+/// Where a run begins over a block that was read from a sector.
 pub(crate) fn control_at(
     alloc: Global,
     block: &MpbRef<'_>,
