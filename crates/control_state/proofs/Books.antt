@@ -1,10 +1,11 @@
 -- Blocks that rounds are edited from: they stand whole in their first sector, and stay so under the edit of a round.
 use Rattle.std.proofs.Common.{◌≡◌, ℕ, ◌+◌, ◌<◌, ◌≤◌, Bool, false, List, [], ◌++◌, length, take, replicate, refl, ap, sym, subst, ◌∙◌, arith}
-use Rattle.std.proofs.lemmas.List.{append-nil, take-take, take_at}
+use Rattle.std.proofs.lemmas.List.{append-nil, length-take, take-take, take_at}
 use Rattle.std.proofs.lemmas.Option.{slice_get-get_or}
 use Rattle.std.specs.Prelude.{Option, Some, Result, Ok, Err, IsOk, OnOk, slice_get}
 use Rattle.std.specs.Option.{option_map_or}
 use Rattle.byteorder.specs.Endian.{little_bytes}
+use Rattle.imsm_base.specs.declared.units.Sector.{Sector}
 use Rattle.imsm_base.specs.Fields.{number_at}
 use Rattle.imsm_base.specs.Volumes.{is_dirty}
 use Rattle.imsm_base.specs.Layout.{Block, Volume, size_of, generation_of, volume_count_of}
@@ -22,7 +23,7 @@ use Rattle.imsm_codec.proofs.Kept.{volumes-counted, generation-kept, generation-
 use Rattle.array_model.specs.Meaning.{bytes_of_laid, of_volume}
 use Rattle.block_words.specs.Reading.{block_words}
 use Rattle.block_words.specs.Renewed.{renewed, renewed_bytes}
-use Rattle.control_state.specs.Book.{IsBook, laid_of}
+use Rattle.control_state.specs.Book.{IsBook, IsBlockOf, laid_at}
 
 long : (bytes : List ℕ) → IsLaid bytes → 216 ≤ length bytes
 long bytes laid = let room = laid.room in omega arith
@@ -41,11 +42,22 @@ generation-counted : (bytes : List ℕ) → generation_of (block_in bytes) ≡ n
 unfolding block_in
 generation-counted bytes = refl
 
-pub generation_laid : (bytes : List ℕ) → IsBook bytes → number_at 4 44 (first_sector bytes) ≡ generation_of (block_in bytes)
-generation_laid bytes book = front 4 44 bytes (omega arith) (long bytes book.laid) ∙ sym (generation-counted bytes)
+taken : (n : ℕ) (xs : List ℕ) → length (take n xs) ≤ n
+taken n xs = let len = length-take n xs in omega (arith, len)
+
+pub generation_there : (s : Sector) (bytes : List ℕ) → IsBook bytes → IsBlockOf s bytes → number_at 4 44 s.0 ≡ generation_of (block_in bytes)
+generation_there s bytes book there =
+    let n : ℕ = number_at 4 36 s.0 in
+    let fits : length (take n (s.0 ++ [])) ≤ n = taken n (s.0 ++ []) in
+    let long : 216 ≤ length bytes = long bytes book.laid in
+    let same : length (take n (s.0 ++ [])) ≡ length bytes = ap (λ (xs : List ℕ). length xs) there in
+    sym (number_at-take 4 44 n s.0 (omega (arith, fits, long, same)))
+    ∙ ap (λ (xs : List ℕ). number_at 4 44 (take n xs)) (sym (append-nil s.0))
+    ∙ ap (number_at 4 44) there
+    ∙ sym (generation-counted bytes)
 
 -- a block of one sector is what its first sector says
-pub bytes_back : (bytes : List ℕ) → IsBook bytes → bytes_of_laid (laid_of bytes) ≡ bytes
+bytes_back : (bytes : List ℕ) → IsBook bytes → bytes_of_laid (laid_at (record { 0 = first_sector bytes })) ≡ bytes
 bytes_back bytes book =
     let n : number_at 4 36 (first_sector bytes) ≡ length bytes = front 4 36 bytes (omega arith) (long bytes book.laid) ∙ sym (size-counted bytes) ∙ book.size in
     ap (λ (k : ℕ). take k (first_sector bytes ++ [])) n
@@ -101,19 +113,23 @@ book_renewed bytes g y book =
       volume = omega (arith, v1, after_dirty one y k1.laid v1, after_seal two k2.laid);
     }
 
-pub renewed_is : (bytes : List ℕ) (g : ℕ) (y : Bool) → IsBook bytes → renewed (laid_of bytes) g y ≡ laid_of (renewed_bytes bytes g y)
-renewed_is bytes g y book = ap (λ (xs : List ℕ). laid_of (renewed_bytes xs g y)) (bytes_back bytes book)
+pub renewed_is : (s : Sector) (bytes : List ℕ) (g : ℕ) (y : Bool) → IsBlockOf s bytes → renewed (laid_at s) g y ≡ laid_at (record { 0 = first_sector (renewed_bytes bytes g y) })
+renewed_is s bytes g y there = ap (λ (xs : List ℕ). laid_at (record { 0 = first_sector (renewed_bytes xs g y) })) there
+
+-- the sector that is made of a block
+pub made_there : (s : Sector) (bytes : List ℕ) → IsBook bytes → s.0 ≡ first_sector bytes → IsBlockOf s bytes
+made_there s bytes book is = ap (λ (xs : List ℕ). bytes_of_laid (laid_at (record { 0 = xs }))) is ∙ bytes_back bytes book
 
 -- WHAT THE CODE READS AND MAKES
 
 pub has_volume : (bytes : List ℕ) → IsBook bytes → 0 < volume_count_of (block_in bytes)
 has_volume bytes book = let volume = book.volume in omega (arith, volumes-counted bytes)
 
-pub dirty_laid : (bytes : List ℕ) → IsBook bytes → is_dirty (volume_at 0 (block_in bytes)) ≡ block_words.is_dirty (laid_of bytes) 0
-dirty_laid bytes book =
+pub dirty_there : (s : Sector) (bytes : List ℕ) → IsBook bytes → IsBlockOf s bytes → is_dirty (volume_at 0 (block_in bytes)) ≡ block_words.is_dirty (laid_at s) 0
+dirty_there s bytes book there =
     let volume = book.volume in
     let first : slice_get (block_in bytes).volumes 0 ≡ Some (volume_at 0 (block_in bytes)) = slice_get-get_or (block_in bytes).volumes 0 blank_volume (omega (arith, length-volumes bytes)) in
-    sym (ap (λ (xs : List ℕ). of_volume (block_in xs) 0 is_dirty false) (bytes_back bytes book) ∙ ap (λ (v : Option Volume). option_map_or is_dirty v false) first)
+    sym (ap (λ (xs : List ℕ). of_volume (block_in xs) 0 is_dirty false) there ∙ ap (λ (v : Option Volume). option_map_or is_dirty v false) first)
 
 pub copied : (r : Result Unit NoRoom) (old new : Buffer) (from : List ℕ) → OnOk r (new ≡ record old { bytes = from }) → IsOk r → new ≡ record old { bytes = from }
 copied (Ok x) old new from made ok = made

@@ -1,12 +1,13 @@
 -- The blocks that rounds are edited from, and how they lie on a disk. Source: this project's own.
 use Rattle.std.specs.Prelude.{◌≡◌, ℕ, ◌<◌, ◌≤◌, List, [], length}
 use Rattle.imsm_base.specs.declared.bounds.TheConstants.{SECTOR_BYTES}
+use Rattle.imsm_base.specs.declared.units.Sector.{Sector}
 use Rattle.imsm_base.specs.Fields.{number_at}
 use Rattle.imsm_base.specs.Layout.{size_of}
 use Rattle.imsm_base.specs.Parts.{block_in}
-use Rattle.imsm_base.specs.Edits.{first_sector}
 use Rattle.imsm_codec.specs.Laid.{IsLaid}
 use Rattle.array_model.specs.Blocks.{Laid}
+use Rattle.array_model.specs.Meaning.{bytes_of_laid}
 
 -- the bytes are a block of one sector with a volume, of the size that it says
 pub record IsBook (bytes : List ℕ) : Type 0 where
@@ -15,6 +16,10 @@ pub record IsBook (bytes : List ℕ) : Type 0 where
   pub size : size_of (block_in bytes) ≡ length bytes
   pub volume : 0 < number_at 1 57 bytes
 
--- as they lie on a disk
-abbrev pub laid_of : List ℕ → Laid
-laid_of bytes = record { anchor = record { 0 = first_sector bytes }; extended = [] }
+-- a block that lies in one sector
+abbrev pub laid_at : Sector → Laid
+laid_at s = record { anchor = s; extended = [] }
+
+-- the bytes are the block with which a sector begins, whatever follows it there
+abbrev pub IsBlockOf : Sector → List ℕ → Type 0
+IsBlockOf s bytes = bytes_of_laid (laid_at s) ≡ bytes

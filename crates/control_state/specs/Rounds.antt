@@ -12,7 +12,7 @@ use Rattle.control_state.specs.declared.round.Phase.{Phase}
 use Rattle.control_state.specs.declared.round.Phase.TheVariants.{Rest, Going}
 use Rattle.control_state.specs.declared.round.Ask.{Ask}
 use Rattle.control_state.specs.declared.round.Round.{Round}
-use Rattle.control_state.specs.Book.{laid_of}
+use Rattle.control_state.specs.Book.{laid_at}
 use Rattle.control_state.specs.Seen.{numbers}
 
 abbrev pub step_of : Step → machine.Step
@@ -25,12 +25,12 @@ phase_of targets m (Going step at) = machine.Going m (step_of step) (drop at tar
 
 abbrev pub round_of : Plan → Round → machine.Round
 round_of p r = record {
-  book = laid_of r.book.block.bytes;
-  last = laid_of r.book.block.bytes;
+  book = laid_at r.book.anchor;
+  last = laid_at r.book.anchor;
   note = r.note;
   started = r.started;
   working = numbers p.targets.items;
-  phase = phase_of (numbers p.targets.items) (laid_of r.next.block.bytes) r.phase;
+  phase = phase_of (numbers p.targets.items) (laid_at r.next.anchor) r.phase;
 }
 
 -- the disk that a round calls next, and what it asks of it

@@ -2,47 +2,44 @@
 ghost use Rattle.std.specs.Prelude.{◌≡◌};
 ghost use Rattle.block_words.specs.Reading.{block_words};
 ghost use Rattle.block_words.specs.Renewed.{renewed};
-ghost use Rattle.control_state.specs.Book.{IsBook, laid_of};
+ghost use Rattle.control_state.specs.Book.{IsBook, IsBlockOf, laid_at};
 
 use imsm_base::{Sector, VolNo};
 use imsm_codec::MpbBuf;
 
-/// A whole block of one sector with a volume, in room for one sector.
+/// A whole block of one sector with a volume, in room for one sector, and the sector as it lies on a disk: one that was
+/// read may hold other bytes behind the block.
 #[derive(Drop)]
 pub struct Book {
     pub block: MpbBuf,
+    pub anchor: Sector,
     ghost whole: { IsBook block.bytes },
     ghost room: { block.room ≡ 512 },
+    ghost there: { IsBlockOf anchor block.bytes },
 }
 
 impl Book {
     /// Whether volume 0 is dirty.
     pub fn is_dirty(&self) -> bool
-        ensures { result ≡ block_words.is_dirty (laid_of self.now.block.bytes) 0 }
+        ensures { result ≡ block_words.is_dirty (laid_at self.now.anchor) 0 }
     {
         self.block.parts().dirty(VolNo(0))
     }
 
     pub fn generation(&self) -> u32
-        ensures { result ≡ block_words.generation (laid_of self.now.block.bytes).anchor }
+        ensures { result ≡ block_words.generation self.now.anchor }
     {
         self.block.parts().generation()
     }
 
-    /// The sector that goes to a disk.
-    pub fn anchor(&self) -> Sector
-        ensures { result ≡ (laid_of self.now.block.bytes).anchor }
-    {
-        self.block.anchor()
-    }
-
     /// Makes this the block of a round that is edited from another, with a generation and the dirty bit of volume 0.
     pub fn renew(&mut self, from: &Book, generation: u32, dirty: bool)
-        ensures { laid_of self.new.block.bytes ≡ renewed (laid_of from.now.block.bytes) generation dirty }
+        ensures { laid_at self.new.anchor ≡ renewed (laid_at from.now.anchor) generation dirty }
     {
         from.block.copy_into(&mut self.block).unwrap();
         self.block.set_generation(generation);
         self.block.set_dirty(VolNo(0), dirty);
         self.block.seal();
+        self.anchor = self.block.anchor();
     }
 }

@@ -6,7 +6,7 @@ ghost use Rattle.block_words.specs.Reading.{block_words};
 ghost use Rattle.stage_machine.specs.Machine as machine;
 ghost use Rattle.stage_machine.specs.Jobs as jobs;
 ghost use Rattle.control_state.specs.declared.plan.Plan.{Plan as PlanSeen};
-ghost use Rattle.control_state.specs.Book.{IsBook, laid_of};
+ghost use Rattle.control_state.specs.Book.{IsBook, IsBlockOf, laid_at};
 ghost use Rattle.control_state.specs.Seen.{clients_of};
 ghost use Rattle.control_state.specs.Controls.{control_of};
 ghost use Rattle.control_state.specs.Begins.{begins_at};
@@ -16,18 +16,20 @@ use crate::client::Client;
 use crate::control::{CLIENTS, Control};
 use crate::round::{Phase, Round};
 use crate::state::State;
-use imsm_base::SECTOR_BYTES;
+use imsm_base::{SECTOR_BYTES, Sector};
 use imsm_codec::{CodecFault, MpbBuf, MpbRef};
 use std::alloc::Global;
 
 impl Book {
-    /// A copy of a whole block of one sector.
-    pub fn copy_of(alloc: Global, mpb: &MpbRef<'_>) -> Result<Book, CodecFault>
-        requires { IsBook (block_bytes mpb.now) }
-        ensures { IfOk result (λ book. book.block.bytes ≡ block_bytes mpb.now) }
+    /// A copy of a whole block of one sector, with the sector that it was read from.
+    pub fn copy_of(alloc: Global, mpb: &MpbRef<'_>, anchor: Sector) -> Result<Book, CodecFault>
+        requires book { IsBook (block_bytes mpb.now) }
+        requires there { IsBlockOf anchor (block_bytes mpb.now) }
+        ensures block { IfOk result (λ book. book.block.bytes ≡ block_bytes mpb.now) }
+        ensures anchor { IfOk result (λ book. book.anchor ≡ anchor) }
     {
         let block = MpbBuf::from_ref(alloc, mpb, SECTOR_BYTES as u16)?;
-        Ok(Book { block })
+        Ok(Book { block, anchor })
     }
 }
 
@@ -57,7 +59,7 @@ impl Control {
     /// Where a run begins: the volume is readonly, and each client has its operations. `spare` has the room of the next
     /// round's block.
     pub fn open(book: Book, spare: Book) -> Control
-        ensures { (p : PlanSeen) → control_of p result ≡ begins_at p (laid_of book.block.bytes) }
+        ensures { (p : PlanSeen) → control_of p result ≡ begins_at p (laid_at book.anchor) }
     {
         let note = book.generation();
         Control {

@@ -3,7 +3,7 @@ ghost use Rattle.std.specs.Prelude.{◌≡◌, ◌+◌, ◌^◌, ◌<◌, drop, 
 ghost use Rattle.imsm_base.specs.declared.bounds.TheConstants.{MAX_DISKS};
 ghost use Rattle.stage_machine.specs.Rounds as machine;
 ghost use Rattle.control_state.specs.Seen.{numbers, plan_setting};
-ghost use Rattle.control_state.specs.Book.{laid_of};
+ghost use Rattle.control_state.specs.Book.{laid_at};
 ghost use Rattle.control_state.specs.Rounds.{round_of, ask_of, next_ask, gone, begun, ended};
 
 use crate::book::Book;
@@ -82,7 +82,7 @@ impl Round {
 
     /// The targets before a place are done: the next one, or the round's end with its generation.
     fn to_next(&mut self, plan: &Plan, at: u8) -> Option<u32>
-        ensures { ended plan.now self.new result ≡ machine.to_next (plan_setting plan.now) (round_of plan.now self.old) (laid_of self.old.next.block.bytes) (drop at (numbers plan.now.targets.items)) }
+        ensures { ended plan.now self.new result ≡ machine.to_next (plan_setting plan.now) (round_of plan.now self.old) (laid_at self.old.next.anchor) (drop at (numbers plan.now.targets.items)) }
     {
         if (at as usize) < plan.targets.len() {
             self.phase = Phase::Going(Step::Anchor, at);

@@ -10,10 +10,10 @@ use Rattle.block_words.specs.Reading.{block_words}
 use Rattle.stage_machine.specs.Machine.{Control, opens}
 use Rattle.control_state.specs.declared.plan.Plan.{Plan}
 use Rattle.control_state.specs.Begins.{begins_at}
-use Rattle.control_state.specs.Book.{laid_of}
+use Rattle.control_state.specs.Book.{laid_at}
 use Rattle.control_state.specs.Seen.{numbers}
 use Rattle.stage.specs.Runs.{run_setting, FitsDisks, FitsBank, OnlyReads, Ran}
-use Rattle.stage.specs.Stages.{IsStage, laid_at}
+use Rattle.stage.specs.Stages.{IsStage}
 
 ran_open : (p : Plan) (newest : Laid) (sizes : List ℕ) (told : Option (List Call)) → OnlyReads told → Ran (run_setting p newest sizes) (begins_at p newest) 0 [] told
 ran_open p newest sizes None reads = record { before = []; reads = tt; log = []; run = opens; agrees = λ all at. absurd (cc at) }
@@ -29,18 +29,16 @@ fits_as : (p : Plan) (targets members : List DiskNo) (pba size : ℕ) (sizes : L
     → FitsDisks (numbers targets) (numbers members) pba size sizes → FitsBank p sizes
 fits_as p targets members pba size sizes one two three four fits = rw (one, two, three, four) fits
 
-pub opened : (p : Plan) (bytes : List ℕ) (anchor : Sector) (c : Control) (targets members : List DiskNo) (pba size limit : ℕ) (sizes : List ℕ) (j : JournalState) (told : Option (List Call))
-    → c ≡ begins_at p (laid_of bytes) → anchor ≡ c.round.book.anchor → p.targets.items ≡ targets → p.members.items ≡ members → p.pba ≡ pba → p.size ≡ size
-    → FitsDisks (numbers targets) (numbers members) pba size sizes → block_words.generation (laid_of bytes).anchor < 0xff000000 → limit ≤ 2 ^ 20 → j ≡ record { entries = []; room = limit } → OnlyReads told
-    → IsStage (run_setting p (laid_at anchor) sizes) p sizes c 0 j.entries j.room told
-opened p bytes anchor c targets members pba size limit sizes j told begins at one two three four fits generation few empty reads =
-    let newest : laid_at anchor ≡ laid_of bytes = ap laid_at (at ∙ ap (λ (x : Control). x.round.book.anchor) begins) in
-    let note : c.round.note ≡ block_words.generation (laid_of bytes).anchor = ap (λ (x : Control). x.round.note) begins in
-    subst (λ (m : Laid). IsStage (run_setting p m sizes) p sizes c 0 j.entries j.room told) (sym newest)
-    (subst (λ (k : JournalState). IsStage (run_setting p (laid_of bytes) sizes) p sizes c 0 k.entries k.room told) (sym empty)
+pub opened : (p : Plan) (newest : Sector) (c : Control) (targets members : List DiskNo) (pba size limit : ℕ) (sizes : List ℕ) (j : JournalState) (told : Option (List Call))
+    → c ≡ begins_at p (laid_at newest) → p.targets.items ≡ targets → p.members.items ≡ members → p.pba ≡ pba → p.size ≡ size
+    → FitsDisks (numbers targets) (numbers members) pba size sizes → block_words.generation newest < 0xff000000 → limit ≤ 2 ^ 20 → j ≡ record { entries = []; room = limit } → OnlyReads told
+    → IsStage (run_setting p (laid_at newest) sizes) p sizes c 0 j.entries j.room told
+opened p newest c targets members pba size limit sizes j told begins one two three four fits generation few empty reads =
+    let note : c.round.note ≡ block_words.generation newest = ap (λ (x : Control). x.round.note) begins in
+    subst (λ (k : JournalState). IsStage (run_setting p (laid_at newest) sizes) p sizes c 0 k.entries k.room told) (sym empty)
     (record {
-      ran = subst (λ (x : Control). Ran (run_setting p (laid_of bytes) sizes) x 0 [] told) (sym begins) (ran_open p (laid_of bytes) sizes told reads);
+      ran = subst (λ (x : Control). Ran (run_setting p (laid_at newest) sizes) x 0 [] told) (sym begins) (ran_open p (laid_at newest) sizes told reads);
       fits = fits_as p targets members pba size sizes one two three four fits;
       few = omega arith;
       notes = omega (arith, note, generation, few);
-    }))
+    })

@@ -1,8 +1,7 @@
 -- What a stage takes as given when it is opened. Source: this project's own.
 use Rattle.std.specs.Prelude.{◌≡◌, ℕ, List, []}
-use Rattle.imsm_codec.specs.Mpb.{block_bytes}
 use Rattle.array_model.specs.Kept.{ScriptState}
-use Rattle.control_state.specs.Book.{laid_of}
+use Rattle.control_state.specs.Book.{laid_at}
 use Rattle.control_state.specs.Seen.{numbers}
 use Rattle.stage_machine.specs.Machine.{begins_at}
 use Rattle.stage.specs.declared.open.Opening.{Opening}
@@ -15,7 +14,7 @@ given_by o script sizes = record {
   members = numbers o.members.items;
   pba = o.pba;
   size = o.size;
-  newest = laid_of (block_bytes o.block);
+  newest = laid_at o.newest;
   sizes = sizes;
 }
 

@@ -1,6 +1,5 @@
 -- What contracts see of a stage, and what a turn leaves of it. Source: this project's own.
 use Rattle.std.specs.Prelude.{◌≡◌, ℕ, ◌+◌, ◌^◌, ◌<◌, ◌≤◌, ◌||◌, nat_lt, nat_le, Bool, true, false, List, [], ◌++◌, length, Option, Some, None, ◌⊎◌}
-use Rattle.imsm_base.specs.declared.units.Sector.{Sector}
 use Rattle.imsm_base.specs.declared.units.Level.TheVariants.{One}
 use Rattle.device_log.specs.Log.{Call}
 use Rattle.array_model.specs.declared.journal.Entry.{Entry}
@@ -67,10 +66,6 @@ pub record Seen (B : Type 0) : Type 0 where
   pub calls : ℕ
   pub journal : List Entry
   pub room : ℕ
-
--- the newest block lies in one sector
-abbrev pub laid_at : Sector → Laid
-laid_at s = record { anchor = s; extended = [] }
 
 -- a run leads here; the plan's disks are in the bank; and there are numbers left for all that can still be entered
 pub record IsStage (S : Setting) (p : Plan) (sizes : List ℕ) (c : Control) (made : ℕ) (journal : List Entry) (room : ℕ) (told : Option (List Call)) : Type 0 where

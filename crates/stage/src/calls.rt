@@ -5,7 +5,7 @@ ghost use Rattle.imsm_base.specs.Whole.{anchor_place};
 ghost use Rattle.device_log.specs.Log.{Call, Read, Write};
 ghost use Rattle.member_bank.specs.Told.{Logs, LogsWrite};
 ghost use Rattle.stage_machine.specs.Jobs.{row_at, value_at};
-ghost use Rattle.control_state.specs.Book.{laid_of};
+ghost use Rattle.control_state.specs.Book.{laid_at};
 ghost use Rattle.control_state.specs.Seen.{plan_setting};
 ghost use Rattle.stage.specs.Asked.{asked_of};
 
@@ -17,13 +17,13 @@ use member_bank::{Bank, Failed};
 pub fn round_call<B: Bank>(bank: &mut B, next: &Book, ask: Ask) -> bool
     requires disk { ask.disk.0 < length (B.sizes bank.old) }
     requires room { METADATA_SECTORS ≤ slice_index (B.sizes bank.old) ask.disk.0 }
-    ensures logs { (stored : ℕ) × Logs (B.log bank.old) (B.log bank.new) (record { disk = ask.disk.0; what = asked_of (slice_index (B.sizes bank.old) ask.disk.0) (laid_of next.now.block.bytes) ask.step (if result then 1 else stored); went = result }) }
+    ensures logs { (stored : ℕ) × Logs (B.log bank.old) (B.log bank.new) (record { disk = ask.disk.0; what = asked_of (slice_index (B.sizes bank.old) ask.disk.0) (laid_at next.now.anchor) ask.step (if result then 1 else stored); went = result }) }
     ensures sizes { B.sizes bank.new ≡ B.sizes bank.old }
 {
     match ask.step {
         Step::Anchor => {
             let place = bank.sectors(ask.disk) - 2;
-            bank.write(ask.disk, place, &[next.anchor()]).is_ok()
+            bank.write(ask.disk, place, &[next.anchor]).is_ok()
         }
         Step::Sync => bank.sync(ask.disk).is_ok(),
     }

@@ -3,13 +3,13 @@ ghost use Rattle.std.specs.Prelude.{◌≡◌, IfOk};
 ghost use Rattle.imsm_codec.specs.Mpb.{block_bytes};
 ghost use Rattle.control_state.specs.declared.plan.Plan.{Plan as PlanSeen};
 ghost use Rattle.control_state.specs.Begins.{begins_at};
-ghost use Rattle.control_state.specs.Book.{IsBook, laid_of};
+ghost use Rattle.control_state.specs.Book.{IsBook, IsBlockOf, laid_at};
 ghost use Rattle.control_state.specs.Controls.{control_of};
 
 use array_model::{Op, Script};
 use arrayvec::ArrayVec;
 use control_state::{Book, Control, Plan};
-use imsm_base::{DiskNo, MAX_DISKS};
+use imsm_base::{DiskNo, MAX_DISKS, Sector};
 use imsm_codec::MpbRef;
 use std::alloc::Global;
 use thiserror::Error;
@@ -21,11 +21,13 @@ pub enum StageFault {
     Memory,
 }
 
-/// What was found on the disks of a bank: the newest block, the disks that it expects in the order of their numbers, the
-/// disks of its volume in the order of its slots, the first sector of the volume on each, and its size in sectors.
+/// What was found on the disks of a bank: the newest block, and the sector that it was read from, whatever follows the
+/// block there; the disks that it expects in the order of their numbers; the disks of its volume in the order of its
+/// slots; the first sector of the volume on each, and its size in sectors.
 #[derive(Drop)]
 pub struct Opening<'a> {
     pub block: MpbRef<'a>,
+    pub newest: Sector,
     pub targets: ArrayVec<DiskNo, MAX_DISKS>,
     pub members: ArrayVec<DiskNo, MAX_DISKS>,
     pub pba: u64,
@@ -60,15 +62,20 @@ pub(crate) fn plan_of(
     })
 }
 
-/// Where a run over a block begins.
-pub(crate) fn control_at(alloc: Global, block: &MpbRef<'_>) -> Result<Control, StageFault>
-    requires { IsBook (block_bytes block.now) }
-    ensures { IfOk result (λ c. (p : PlanSeen) → control_of p c ≡ begins_at p (laid_of (block_bytes block.now))) }
+/// Where a run begins over a block that was read from a sector.
+pub(crate) fn control_at(
+    alloc: Global,
+    block: &MpbRef<'_>,
+    newest: Sector,
+) -> Result<Control, StageFault>
+    requires book { IsBook (block_bytes block.now) }
+    requires newest { IsBlockOf newest (block_bytes block.now) }
+    ensures { IfOk result (λ c. (p : PlanSeen) → control_of p c ≡ begins_at p (laid_at newest)) }
 {
-    let Ok(book) = Book::copy_of(alloc, block) else {
+    let Ok(book) = Book::copy_of(alloc, block, newest) else {
         return Err(StageFault::Memory);
     };
-    let Ok(spare) = Book::copy_of(alloc, block) else {
+    let Ok(spare) = Book::copy_of(alloc, block, newest) else {
         return Err(StageFault::Memory);
     };
     Ok(Control::open(book, spare))

@@ -8,7 +8,7 @@ ghost use Rattle.stage.specs.Stages.{Answered, setting_of};
 ghost use Rattle.stage.specs.Ends.{answer_of};
 ghost use Rattle.imsm_codec.specs.Mpb.{block_bytes};
 ghost use Rattle.block_words.specs.Reading.{block_words};
-ghost use Rattle.control_state.specs.Book.{IsBook, laid_of};
+ghost use Rattle.control_state.specs.Book.{IsBook, IsBlockOf};
 ghost use Rattle.control_state.specs.Seen.{numbers};
 ghost use Rattle.stage.specs.Runs.{Ran, FitsDisks, OnlyReads};
 ghost use Rattle.stage.specs.Opens.{given_by, IsOpened};
@@ -27,7 +27,7 @@ use std::marker::Model;
 /// As many calls a run makes at most.
 pub const MAX_CALLS: u64 = 1 << 48;
 
-/// A bank, and a run over it: the plan, the newest block's sector as it was found, where the run stands, how many device
+/// A bank, and a run over it: the plan, the newest block's sector as it was read, where the run stands, how many device
 /// calls it has made, and its journal.
 #[derive(Drop)]
 pub struct Stage<B: Bank> {
@@ -40,9 +40,10 @@ pub struct Stage<B: Bank> {
 }
 
 impl<B: Bank> Model for Stage<B> {
+    ghost use Rattle.control_state.specs.Book.{laid_at};
     ghost use Rattle.control_state.specs.Controls.{control_of};
     ghost use Rattle.stage.specs.Runs.{run_setting};
-    ghost use Rattle.stage.specs.Stages.{Seen, IsStage, given_of, laid_at};
+    ghost use Rattle.stage.specs.Stages.{Seen, IsStage, given_of};
 
     ghost Value = { Seen B };
 
@@ -97,14 +98,16 @@ impl<B: Bank> Stage<B> {
         limit: u32,
     ) -> Result<Stage<B>, (B, StageFault)>
         requires book { IsBook (block_bytes opening.block) }
-        requires generation { block_words.generation (laid_of (block_bytes opening.block)).anchor < 0xff000000 }
+        requires newest { IsBlockOf opening.newest (block_bytes opening.block) }
+        requires generation { block_words.generation opening.newest < 0xff000000 }
         requires limit { limit ≤ 2 ^ 20 }
         requires disks { FitsDisks (numbers opening.targets.items) (numbers opening.members.items) opening.pba opening.size (B.sizes bank) }
         requires reads { OnlyReads (B.log bank) }
         ensures ok { IfOk result (λ s. IsOpened s bank (given_by opening.entry script.now (B.sizes bank)) limit) }
         ensures err { IfErr result (λ e. e.0 ≡ bank) }
     {
-        let control = match control_at(alloc, &opening.block) {
+        let newest = opening.newest;
+        let control = match control_at(alloc, &opening.block, newest) {
             Ok(control) => control,
             Err(fault) => return Err((bank, fault)),
         };
@@ -118,7 +121,7 @@ impl<B: Bank> Stage<B> {
         Ok(Stage {
             bank,
             plan,
-            newest: control.round.book.anchor(),
+            newest,
             control,
             calls: 0,
             journal,

@@ -1,7 +1,7 @@
 use Rattle.std.proofs.Common.{Bool, true, false, [], refl, sym, ap, subst, ◌∙◌}
 use Rattle.std.specs.Prelude.{slice_index, if◌then◌else◌}
 use Rattle.member_bank.specs.Told.{Logs}
-use Rattle.control_state.specs.Book.{laid_of}
+use Rattle.control_state.specs.Book.{laid_at}
 use Rattle.control_state.specs.Seen.{numbers}
 use Rattle.control_state.specs.Rounds.{ask_of, step_of}
 use Rattle.control_state.specs.Controls.{control_of, out_of, failed_of}
@@ -12,13 +12,13 @@ use Rattle.stage.proofs.monitor.monitor_part.Goals as goal
 pub round_call-requires-clause-disk : goal.round_call-requires-clause-disk
 round_call-requires-clause-disk g c =
     (c.requires.fits.targets_there c.in-Some.ask.disk.0
-    (asked_has (numbers c.args.plan.now.targets.items) (laid_of c.args.control.now.round.next.block.bytes) c.args.control.now.round.phase c.in-Some.ask.disk.0 (step_of c.in-Some.ask.step)
+    (asked_has (numbers c.args.plan.now.targets.items) (laid_at c.args.control.now.round.next.anchor) c.args.control.now.round.phase c.in-Some.ask.disk.0 (step_of c.in-Some.ask.step)
     (sym c.ask.ensures ∙ ap ask_of c.in-Some.is))).0
 
 pub round_call-requires-clause-room : goal.round_call-requires-clause-room
 round_call-requires-clause-room g c =
     (c.requires.fits.targets_there c.in-Some.ask.disk.0
-    (asked_has (numbers c.args.plan.now.targets.items) (laid_of c.args.control.now.round.next.block.bytes) c.args.control.now.round.phase c.in-Some.ask.disk.0 (step_of c.in-Some.ask.step)
+    (asked_has (numbers c.args.plan.now.targets.items) (laid_at c.args.control.now.round.next.anchor) c.args.control.now.round.phase c.in-Some.ask.disk.0 (step_of c.in-Some.ask.step)
     (sym c.ask.ensures ∙ ap ask_of c.in-Some.is))).1
 
 pub returns-in-None-clause-made : goal.returns-in-None-clause-made
@@ -33,7 +33,7 @@ returns-then-round_call-clause-made g c = λ newest.
     let p = c.args.plan.now in
     let sizes = g.B.Bank.sizes c.args.bank.now in
     let C = control_of p c.args.control.now in
-    let m = laid_of c.args.control.now.round.next.block.bytes in
+    let m = laid_at c.args.control.now.round.next.anchor in
     let a = c.in-Some.ask in
     let stored = c.round_call.ensures.logs.0 in (
       record { went = true; stored = stored },
@@ -50,7 +50,7 @@ returns-else-round_call-clause-made g c = λ newest.
     let p = c.args.plan.now in
     let sizes = g.B.Bank.sizes c.args.bank.now in
     let C = control_of p c.args.control.now in
-    let m = laid_of c.args.control.now.round.next.block.bytes in
+    let m = laid_at c.args.control.now.round.next.anchor in
     let a = c.in-Some.ask in
     let stored = c.round_call.ensures.logs.0 in (
       record { went = false; stored = stored },

@@ -1,7 +1,8 @@
 use Rattle.std.proofs.Common.{List, ℕ, sym, ap, ◌∙◌, subst, arith}
+use Rattle.imsm_base.specs.Edits.{first_sector}
 use Rattle.imsm_codec.specs.Buffer.{Buffer}
-use Rattle.control_state.specs.Book.{IsBook, laid_of}
-use Rattle.control_state.proofs.Books.{copied, bytes_made, room_made, volume_counted, book_renewed, renewed_is}
+use Rattle.control_state.specs.Book.{IsBook, laid_at}
+use Rattle.control_state.proofs.Books.{copied, bytes_made, room_made, volume_counted, book_renewed, renewed_is, made_there}
 use Rattle.control_state.proofs.book.Book.renew.Goals as goal
 
 pub set_dirty-requires : goal.set_dirty-requires
@@ -19,8 +20,10 @@ invariant_of-self c =
     let copy = copied c.copy_into.result c.args.self.now.block c.copy_into.new.other from c.copy_into.ensures.ok (c.copy_into.ensures.variant.1 (omega (arith, short, room))) in
     let made = bytes_made c.copy_into.new.other c.set_generation.new.self c.set_dirty.new.self c.seal.new.self from c.args.generation c.args.dirty
     (ap (λ (s : Buffer). s.bytes) copy) c.set_generation.ensures.bytes c.set_dirty.ensures.bytes c.seal.ensures.bytes in
+    let whole : IsBook c.seal.new.self.bytes = subst IsBook (sym made) (book_renewed from c.args.generation c.args.dirty c.args.from.now.whole) in
     record {
-      whole = subst IsBook (sym made) (book_renewed from c.args.generation c.args.dirty c.args.from.now.whole);
+      whole = whole;
+      there = made_there c.anchor-self.result c.seal.new.self.bytes whole c.anchor-self.ensures;
       room = room_made c.args.self.now.block c.copy_into.new.other c.set_generation.new.self c.set_dirty.new.self c.seal.new.self from c.args.generation c.args.dirty
           copy c.set_generation.ensures.bytes c.set_dirty.ensures.bytes c.seal.ensures.bytes ∙ room;
     }
@@ -33,4 +36,5 @@ returns c =
     let copy = copied c.copy_into.result c.args.self.now.block c.copy_into.new.other from c.copy_into.ensures.ok (c.copy_into.ensures.variant.1 (omega (arith, short, room))) in
     let made = bytes_made c.copy_into.new.other c.set_generation.new.self c.set_dirty.new.self c.seal.new.self from c.args.generation c.args.dirty
     (ap (λ (s : Buffer). s.bytes) copy) c.set_generation.ensures.bytes c.set_dirty.ensures.bytes c.seal.ensures.bytes in
-    ap laid_of made ∙ sym (renewed_is from c.args.generation c.args.dirty c.args.from.now.whole)
+    ap (λ (xs : List ℕ). laid_at (record { 0 = xs })) (c.anchor-self.ensures ∙ ap first_sector made)
+    ∙ sym (renewed_is c.args.from.now.anchor from c.args.generation c.args.dirty c.args.from.now.there)

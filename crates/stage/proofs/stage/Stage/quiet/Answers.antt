@@ -1,11 +1,12 @@
 use Rattle.std.proofs.Common.{◌≡◌, false, None, refl, sym, ap, subst, ◌∙◌, inl}
 use Rattle.array_model.specs.Kept.{JournalState}
 use Rattle.stage_machine.specs.Machine.{Quiets}
+use Rattle.control_state.specs.Book.{laid_at}
 use Rattle.control_state.specs.Still.{is_still}
 use Rattle.control_state.specs.Controls.{control_of, out_of, failed_of}
 use Rattle.stage.specs.declared.turned.Turned.TheVariants.{Idle, JournalFull, Member}
 use Rattle.stage.specs.Runs.{run_setting}
-use Rattle.stage.specs.Stages.{Seen, IsStage, Answered, setting_of, laid_at, is_full}
+use Rattle.stage.specs.Stages.{Seen, IsStage, Answered, setting_of, is_full}
 use Rattle.stage.proofs.Monitors.{makes_none}
 use Rattle.stage.proofs.Same.{quiet_same}
 use Rattle.stage.proofs.Staged.{stage_goes, turns_made, not_full}
