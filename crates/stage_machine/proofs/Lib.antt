@@ -7,3 +7,4 @@ pub mod Targets
 pub mod Ours
 pub mod Finished
 pub mod Failed
+pub mod Cells
