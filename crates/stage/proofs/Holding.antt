@@ -1,7 +1,6 @@
 -- What the disks held when a run began doesn't matter to what the machine does and calls.
 use Rattle.std.proofs.Common.{◌≡◌, ℕ, ◌+◌, ◌==◌, ◌&&◌, ◌||◌, not, Bool, true, false, List, [], ◌∷◌, Option, Some, None, refl, ap, ◌∙◌}
 use Rattle.imsm_base.specs.declared.units.Sector.{Sector}
-use Rattle.device_log.specs.Log.{Call}
 use Rattle.array_model.specs.declared.script.OpKind.{OpKind}
 use Rattle.array_model.specs.declared.script.OpKind.TheVariants.{Write as OpWrite, Read as OpRead, Whole as OpWhole}
 use Rattle.array_model.specs.Blocks.{Laid}
@@ -10,7 +9,7 @@ use Rattle.stage_machine.specs.Setting.{Setting}
 use Rattle.stage_machine.specs.Rounds.{Round, Phase, Rest, Going, Step, AtAnchor, AtSync, Ended, to_next, step_on, round_call, what_of}
 use Rattle.stage_machine.specs.States.{State, IsReadonly, IsReadAuto, IsClean, IsPending, IsActive, IsIdle, Move, Nothing, Starts, Makes, decide, is_readonly, is_pending_state}
 use Rattle.stage_machine.specs.Jobs.{JobStep, Waiting, Writing, Syncing, Written, Got, Job, NoJob, Busy, Client, client_at, Need, NoNeed, Reads, Writes, Syncs, Answers, holds, locked_from, is_writing, any_writing, is_write, row_at, need_of, first_need, after_write, need_call}
-use Rattle.stage_machine.specs.Machine.{Control, Action, Monitors, Asks, Quiets, Out, called, put_round, put_client, monitor_at, moved, submit_next, submit_unless, submit_kind, need_now, need_unless, is_held, meet, client_by, job_call, quieted, quiet_if, turn, turned, turned_unless, turn_call, call_of, call_unless}
+use Rattle.stage_machine.specs.Machine.{Control, Action, Monitors, Asks, Quiets, called, put_round, put_client, monitor_at, moved, submit_next, submit_unless, submit_kind, need_now, need_unless, is_held, meet, client_by, job_call, quieted, quiet_if, turn, turned, turned_unless, turn_call, call_of, call_unless}
 use Rattle.stage.specs.Runs.{holding}
 
 module _ (S : Setting) (opening : List (List Sector)) where

@@ -10,7 +10,7 @@ ghost use Rattle.imsm_codec.specs.Mpb.{block_bytes};
 ghost use Rattle.block_words.specs.Reading.{block_words};
 ghost use Rattle.control_state.specs.Book.{IsBook, laid_of};
 ghost use Rattle.control_state.specs.Seen.{numbers};
-ghost use Rattle.stage.specs.Runs.{Ran, FitsDisks, OnlyReads};
+ghost use Rattle.stage.specs.Runs.{Ran, RanTrue, FitsDisks, OnlyReads};
 ghost use Rattle.stage.specs.Opens.{given_by, IsOpened};
 
 use crate::client::client_part;
@@ -48,7 +48,7 @@ impl<B: Bank> Model for Stage<B> {
 
     ghost view = { λ s. record { bank = s.bank; given = given_of s.plan (laid_at s.newest) (B.sizes s.bank); control = control_of s.plan s.control; calls = s.calls; journal = s.journal.entries; room = s.journal.room } };
 
-    ghost invariant = { λ s. IsStage (run_setting s.plan (laid_at s.newest) (B.sizes s.bank)) s.plan (B.sizes s.bank) (control_of s.plan s.control) s.calls s.journal.entries s.journal.room (B.log s.bank) };
+    ghost invariant = { λ s. IsStage (run_setting s.plan (laid_at s.newest) (B.sizes s.bank)) s.plan (B.sizes s.bank) (control_of s.plan s.control) s.calls s.journal.entries s.journal.room (B.opening s.bank) (B.log s.bank) };
 }
 
 /// Takes down what a turn enters.
@@ -190,10 +190,11 @@ impl<B: Bank> Stage<B> {
         answer(self.control.failed)
     }
 
-    /// The bank and the journal, to which a run of the machine has led.
+    /// The bank and the journal, to which a run of the machine has led, in which each read gave what stood there.
     pub fn close(self) -> (B, Journal)
         ensures bank { (result.0 ≡ self.bank) × (result.1.entries ≡ self.journal) }
         ensures ran { Ran (setting_of self.given) self.control self.calls self.journal (B.log self.bank) }
+        ensures honest { RanTrue (setting_of self.given) self.control self.calls self.journal (B.opening self.bank) (B.log self.bank) }
     {
         let Stage { bank, journal, .. } = self;
         (bank, journal)

@@ -6,6 +6,7 @@ use Rattle.control_state.specs.Controls.{control_of, out_of, failed_of}
 use Rattle.stage.specs.declared.turned.Turned.TheVariants.{Idle, JournalFull, Member}
 use Rattle.stage.specs.Runs.{run_setting}
 use Rattle.stage.specs.Stages.{Seen, IsStage, Answered, setting_of, given_of, laid_at, is_full}
+use Rattle.stage.proofs.Going.{monitor_true}
 use Rattle.stage.proofs.Staged.{stage_goes, turns_made, not_full}
 use Rattle.stage.proofs.Stilled.{still_same, answers_made}
 use Rattle.stage.proofs.stage.Stage.monitor_turn.Goals as goal
@@ -15,16 +16,19 @@ invariant_of-self g c =
     let p = c.self.inside.plan in
     let newest = laid_at c.self.inside.newest in
     let sizes = g.B.Bank.sizes c.self.inside.bank in
+    let contents = g.B.Bank.opening c.self.inside.bank in
     let told = g.B.Bank.log c.self.inside.bank in
     let C = control_of p c.self.inside.control in
     let made = c.self.inside.calls in
     let few = (not_full c.self.inside.journal.room _ made (sym c.is_full.ensures ∙ c.if-is_full.false)).1 in
     let out = out_of p c.monitor_part-events.new.control c.monitor_part-events.result in
+    let held = g.B.Bank.opening c.monitor_part-events.new.bank in
     let now = g.B.Bank.log c.monitor_part-events.new.bank in
     let m = c.monitor_part-events.ensures.made newest in
-    subst (λ (sz : List ℕ). IsStage (run_setting p newest sz) p sz out.next c.monitor_part-events.new.calls c.enter.new.journal.entries c.enter.new.journal.room now) (sym c.monitor_part-events.ensures.sizes)
-    (subst (λ (j : JournalState). IsStage (run_setting p newest sizes) p sizes out.next c.monitor_part-events.new.calls j.entries j.room now) (sym c.enter.ensures)
-    (stage_goes (run_setting p newest sizes) p sizes C made c.self.inside.journal.entries c.self.inside.journal.room told (Monitors m.0) out c.monitor_part-events.new.calls _ now c.self.invariant few m.1 refl))
+    subst (λ (sz : List ℕ). IsStage (run_setting p newest sz) p sz out.next c.monitor_part-events.new.calls c.enter.new.journal.entries c.enter.new.journal.room held now) (sym c.monitor_part-events.ensures.sizes)
+    (subst (λ (j : JournalState). IsStage (run_setting p newest sizes) p sizes out.next c.monitor_part-events.new.calls j.entries j.room held now) (sym c.enter.ensures)
+    (stage_goes (run_setting p newest sizes) p sizes C made c.self.inside.journal.entries c.self.inside.journal.room contents told (Monitors m.0) out c.monitor_part-events.new.calls _ held now c.self.invariant few
+    (monitor_true (run_setting p newest sizes) told C made m.0 out c.monitor_part-events.new.calls held now m.1) c.monitor_part-events.ensures.opening refl))
 
 -- a call failed before
 pub returns-in-Some : goal.returns-in-Some

@@ -6,7 +6,8 @@ use Rattle.control_state.specs.Controls.{control_of, out_of, failed_of}
 use Rattle.stage.specs.declared.turned.Turned.TheVariants.{Idle, JournalFull, Member}
 use Rattle.stage.specs.Runs.{run_setting}
 use Rattle.stage.specs.Stages.{Seen, IsStage, Answered, setting_of, laid_at, is_full}
-use Rattle.stage.proofs.Monitors.{makes_none}
+use Rattle.stage.proofs.Going.{silent_true}
+use Rattle.stage.proofs.Monitors.{makes_none, called_live}
 use Rattle.stage.proofs.Same.{quiet_same}
 use Rattle.stage.proofs.Staged.{stage_goes, turns_made, not_full}
 use Rattle.stage.proofs.Stilled.{still_same, answers_made}
@@ -17,14 +18,16 @@ invariant_of-self g c =
     let p = c.self.inside.plan in
     let newest = laid_at c.self.inside.newest in
     let sizes = g.B.Bank.sizes c.self.inside.bank in
+    let contents = g.B.Bank.opening c.self.inside.bank in
     let told = g.B.Bank.log c.self.inside.bank in
     let C = control_of p c.self.inside.control in
     let made = c.self.inside.calls in
     let few = (not_full c.self.inside.journal.room _ made (sym c.is_full.ensures ∙ c.if-is_full.false)).1 in
     let out = out_of p c.quiet-events.new.self c.quiet-events.result in
     let makes = makes_none (run_setting p newest sizes) told C made Quiets out (ap failed_of c.in_default.is) refl (c.quiet-events.ensures ∙ quiet_same p newest sizes C C.state) in
-    subst (λ (j : JournalState). IsStage (run_setting p newest sizes) p sizes out.next made j.entries j.room told) (sym c.enter.ensures)
-    (stage_goes (run_setting p newest sizes) p sizes C made c.self.inside.journal.entries c.self.inside.journal.room told Quiets out made _ told c.self.invariant few makes refl)
+    subst (λ (j : JournalState). IsStage (run_setting p newest sizes) p sizes out.next made j.entries j.room contents told) (sym c.enter.ensures)
+    (stage_goes (run_setting p newest sizes) p sizes C made c.self.inside.journal.entries c.self.inside.journal.room contents told Quiets out made _ contents told c.self.invariant few
+    (silent_true (run_setting p newest sizes) told C made Quiets out made contents told (called_live (run_setting p newest sizes) C Quiets (ap failed_of c.in_default.is)) makes) (λ opening at. at) refl)
 
 -- a call failed before
 pub returns-in-Some : goal.returns-in-Some
