@@ -8,3 +8,4 @@ pub mod Ours
 pub mod Finished
 pub mod Failed
 pub mod Cells
+pub mod Alike
