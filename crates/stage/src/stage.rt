@@ -1,6 +1,7 @@
 //! A stage over a bank: each of its turns is one of the machine.
 ghost use Rattle.std.specs.Prelude.{◌≡◌, ◌+◌, ◌<◌, ◌≤◌, IfOk, IfErr, ◌⊎◌, ◌++◌, ℕ, length, nat_lt, nat_le, ◌||◌, ◌^◌};
 ghost use Rattle.imsm_base.specs.declared.units.Sector.{Sector as SectorBytes};
+ghost use Rattle.member_bank.specs.Told.{Keeps};
 ghost use Rattle.stage_machine.specs.Rounds.{Ended};
 ghost use Rattle.stage_machine.specs.Machine.{Monitors, Asks, Quiets, stamped};
 ghost use Rattle.control_state.specs.Controls.{listed};
@@ -127,7 +128,8 @@ impl<B: Bank> Stage<B> {
 
     /// The monitor's turn.
     pub fn monitor_turn(&mut self) -> Turned
-        ensures { (x : Ended) × Answered self.old self.new (Monitors x) result }
+        ensures answered { (x : Ended) × Answered self.old self.new (Monitors x) result }
+        ensures opening { Keeps (B.opening self.old.bank) (B.opening self.new.bank) }
     {
         if let Some(disk) = self.control.failed {
             return Turned::Member(disk);
@@ -150,7 +152,8 @@ impl<B: Bank> Stage<B> {
 
     /// A client's turn.
     pub fn client_turn(&mut self, k: u8) -> Turned
-        ensures { (x : Ended) × (got : SectorBytes) × Answered self.old self.new (Asks k x got) result }
+        ensures answered { (x : Ended) × (got : SectorBytes) × Answered self.old self.new (Asks k x got) result }
+        ensures opening { Keeps (B.opening self.old.bank) (B.opening self.new.bank) }
     {
         if let Some(disk) = self.control.failed {
             return Turned::Member(disk);
@@ -174,7 +177,8 @@ impl<B: Bank> Stage<B> {
 
     /// The volume rests, where no write is without an answer.
     pub fn quiet(&mut self) -> Turned
-        ensures { Answered self.old self.new Quiets result }
+        ensures answered { Answered self.old self.new Quiets result }
+        ensures opening { Keeps (B.opening self.old.bank) (B.opening self.new.bank) }
     {
         if let Some(disk) = self.control.failed {
             return Turned::Member(disk);

@@ -30,13 +30,13 @@ invariant_of-self g c =
     (stage_goes (run_setting p newest sizes) p sizes C made c.self.inside.journal.entries c.self.inside.journal.room contents told (Asks c.args.k m.0 m.1) out c.client_part-events.new.calls _ held now c.self.invariant few m.2 c.client_part-events.ensures.opening refl))
 
 -- a call failed before
-pub returns-in-Some : goal.returns-in-Some
-returns-in-Some g c =
+pub returns-in-Some-clause-answered : goal.returns-in-Some-clause-answered
+returns-in-Some-clause-answered g c =
     (record { went = true; stored = 0 }, sector_of 0, subst (λ (v : Seen g.row.B.Denot). Answered v v (Asks c.args.k (record { went = true; stored = 0 }) (sector_of 0)) (Member c.in-Some.disk)) c.self.view_is (ap failed_of c.in-Some.is, inl refl))
 
 -- there is nothing to do
-pub returns-then-client_is_still : goal.returns-then-client_is_still
-returns-then-client_is_still g c =
+pub returns-then-client_is_still-clause-answered : goal.returns-then-client_is_still-clause-answered
+returns-then-client_is_still-clause-answered g c =
     let p = c.self.inside.plan in
     let newest = laid_at c.self.inside.newest in
     let sizes = g.B.Bank.sizes c.self.inside.bank in
@@ -44,8 +44,8 @@ returns-then-client_is_still g c =
     (record { went = true; stored = 0 }, sector_of 0, subst (λ (v : Seen g.row.B.Denot). Answered v v (Asks c.args.k (record { went = true; stored = 0 }) (sector_of 0)) Idle) c.self.view_is (refl, ap failed_of c.in_default.is, sym (still_same p newest sizes C (Asks c.args.k (record { went = true; stored = 0 }) (sector_of 0))) ∙ sym (c.client_is_still.ensures.still (record { went = true; stored = 0 }) (sector_of 0)) ∙ c.if-client_is_still.true))
 
 -- there is no room
-pub returns-then-is_full : goal.returns-then-is_full
-returns-then-is_full g c =
+pub returns-then-is_full-clause-answered : goal.returns-then-is_full-clause-answered
+returns-then-is_full-clause-answered g c =
     let p = c.self.inside.plan in
     let newest = laid_at c.self.inside.newest in
     let sizes = g.B.Bank.sizes c.self.inside.bank in
@@ -53,8 +53,8 @@ returns-then-is_full g c =
     (record { went = true; stored = 0 }, sector_of 0, subst (λ (v : Seen g.row.B.Denot). Answered v v (Asks c.args.k (record { went = true; stored = 0 }) (sector_of 0)) JournalFull) c.self.view_is (refl, ap failed_of c.in_default.is, sym (still_same p newest sizes C (Asks c.args.k (record { went = true; stored = 0 }) (sector_of 0))) ∙ sym (c.client_is_still.ensures.still (record { went = true; stored = 0 }) (sector_of 0)) ∙ c.if-client_is_still.false, sym c.is_full.ensures ∙ c.if-is_full.true))
 
 -- the turn was made
-pub returns : goal.returns
-returns g c =
+pub returns-clause-answered : goal.returns-clause-answered
+returns-clause-answered g c =
     let p = c.self.inside.plan in
     let newest = laid_at c.self.inside.newest in
     let sizes = g.B.Bank.sizes c.self.inside.bank in

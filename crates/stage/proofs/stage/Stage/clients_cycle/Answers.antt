@@ -11,7 +11,7 @@ loop-k-preserved g c =
     let a = c.args.self.now in
     let b = c.loop-k.self in
     let n = c.client_turn.new.self in
-    let t = c.client_turn.ensures in
+    let t = c.client_turn.ensures.answered in
     let inv = c.loop-k.invariant in
     let follows = follows_on a b n inv.follows (answered_follows b n (Asks c.loop-k.k t.0 t.1) c.client_turn.result t.2) in
     elim c.match-client_turn.branch [

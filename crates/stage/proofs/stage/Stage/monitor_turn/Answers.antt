@@ -31,13 +31,13 @@ invariant_of-self g c =
     (monitor_true (run_setting p newest sizes) told C made m.0 out c.monitor_part-events.new.calls held now m.1) c.monitor_part-events.ensures.opening refl))
 
 -- a call failed before
-pub returns-in-Some : goal.returns-in-Some
-returns-in-Some g c =
+pub returns-in-Some-clause-answered : goal.returns-in-Some-clause-answered
+returns-in-Some-clause-answered g c =
     (record { went = true; stored = 0 }, subst (λ (v : Seen g.row.B.Denot). Answered v v (Monitors (record { went = true; stored = 0 })) (Member c.in-Some.disk)) c.self.view_is (ap failed_of c.in-Some.is, inl refl))
 
 -- there is nothing to do
-pub returns-then-monitor_is_still : goal.returns-then-monitor_is_still
-returns-then-monitor_is_still g c =
+pub returns-then-monitor_is_still-clause-answered : goal.returns-then-monitor_is_still-clause-answered
+returns-then-monitor_is_still-clause-answered g c =
     let p = c.self.inside.plan in
     let newest = laid_at c.self.inside.newest in
     let sizes = g.B.Bank.sizes c.self.inside.bank in
@@ -45,8 +45,8 @@ returns-then-monitor_is_still g c =
     (record { went = true; stored = 0 }, subst (λ (v : Seen g.row.B.Denot). Answered v v (Monitors (record { went = true; stored = 0 })) Idle) c.self.view_is (refl, ap failed_of c.in_default.is, sym (still_same p newest sizes C (Monitors (record { went = true; stored = 0 }))) ∙ sym (c.monitor_is_still.ensures (record { went = true; stored = 0 })) ∙ c.if-monitor_is_still.true))
 
 -- there is no room
-pub returns-then-is_full : goal.returns-then-is_full
-returns-then-is_full g c =
+pub returns-then-is_full-clause-answered : goal.returns-then-is_full-clause-answered
+returns-then-is_full-clause-answered g c =
     let p = c.self.inside.plan in
     let newest = laid_at c.self.inside.newest in
     let sizes = g.B.Bank.sizes c.self.inside.bank in
@@ -54,8 +54,8 @@ returns-then-is_full g c =
     (record { went = true; stored = 0 }, subst (λ (v : Seen g.row.B.Denot). Answered v v (Monitors (record { went = true; stored = 0 })) JournalFull) c.self.view_is (refl, ap failed_of c.in_default.is, sym (still_same p newest sizes C (Monitors (record { went = true; stored = 0 }))) ∙ sym (c.monitor_is_still.ensures (record { went = true; stored = 0 })) ∙ c.if-monitor_is_still.false, sym c.is_full.ensures ∙ c.if-is_full.true))
 
 -- the turn was made
-pub returns : goal.returns
-returns g c =
+pub returns-clause-answered : goal.returns-clause-answered
+returns-clause-answered g c =
     let p = c.self.inside.plan in
     let newest = laid_at c.self.inside.newest in
     let sizes = g.B.Bank.sizes c.self.inside.bank in
