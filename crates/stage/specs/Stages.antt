@@ -72,7 +72,8 @@ pub record Seen (B : Type 0) : Type 0 where
 abbrev pub laid_at : Sector → Laid
 laid_at s = record { anchor = s; extended = [] }
 
--- a run leads here, whose reads gave what stood there; the plan's disks are in the bank; and there are numbers left for all that can still be entered
+-- a run leads here, whose reads gave what stood there; the plan's disks are in the bank; and there are numbers left for
+-- all that can still be entered
 pub record IsStage (S : Setting) (p : Plan) (sizes : List ℕ) (c : Control) (made : ℕ) (journal : List Entry) (room : ℕ) (contents : Option (List (List Sector))) (told : Option (List Call)) : Type 0 where
   pub ran : RanTrue S c made journal contents told
   pub fits : FitsBank p sizes
