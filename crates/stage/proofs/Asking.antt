@@ -1,9 +1,9 @@
 -- A client's turn in the code is the machine's.
-use Rattle.std.proofs.Common.{◌≡◌, ℕ, ◌+◌, ◌<◌, Bool, true, false, List, [], ◌∷◌, drop, Option, Some, None, nat_lt, refl, ap, sym, ◌∙◌, arith}
+use Rattle.std.proofs.Common.{◌≡◌, ℕ, ◌+◌, ◌<◌, Bool, true, false, List, [], ◌∷◌, drop, Option, Some, None, nat_lt, refl, ap, sym, subst, ◌∙◌, arith}
 use Rattle.std.proofs.lemmas.Bool.Decides.{nat_tests}
 use Rattle.imsm_base.specs.declared.units.Sector.{Sector}
-use Rattle.device_log.specs.Log.{Call}
-use Rattle.member_bank.specs.Told.{Logs}
+use Rattle.device_log.specs.Log.{Call, Read}
+use Rattle.member_bank.specs.Told.{Logs, Gives}
 use Rattle.array_model.specs.declared.script.OpKind.{OpKind}
 use Rattle.array_model.specs.declared.script.OpKind.TheVariants.{Write as OpWrite, Read as OpRead, Whole as OpWhole}
 use Rattle.array_model.specs.Script.{kind_at}
@@ -18,8 +18,9 @@ use Rattle.control_state.specs.declared.plan.Plan.{Plan}
 use Rattle.control_state.specs.declared.job.JobStep.{JobStep}
 use Rattle.control_state.specs.declared.job.JobStep.TheVariants.{Waiting, Writing, Syncing, Written, Got}
 use Rattle.control_state.specs.Seen.{plan_setting, numbers, shape_of, step_of}
-use Rattle.stage.specs.Runs.{run_setting, Makes}
-use Rattle.stage.proofs.Monitors.{makes_none, makes_some, drop_has}
+use Rattle.stage.specs.Runs.{run_setting, MakesTrue}
+use Rattle.stage.proofs.Going.{silent_true}
+use Rattle.stage.proofs.Monitors.{makes_none, makes_some, called_live, drop_has}
 use Rattle.stage.proofs.Same.{now_same, next_same}
 
 -- WHICH DISK, AND WHICH ROW
@@ -81,6 +82,9 @@ row_below p i some = at (sector_in (kind_at p.ops.items i))
 
 -- TURNS
 
+some_is : (a b : Call) → Some a ≡ Some b → a ≡ b
+some_is a b is = cc is
+
 module _ (p : Plan) (newest : Laid) (sizes : List ℕ) where
   -- the job of the client meets what it needs
   met : (c : Control) (k : ℕ) (x : Ended) (got : Sector) (i : ℕ) (step : jobs.JobStep) (n : jobs.Need) → (client_at c.clients k).job ≡ Busy i step → n ≡ need_now (plan_setting p) c k i step
@@ -97,19 +101,31 @@ module _ (p : Plan) (newest : Laid) (sizes : List ℕ) where
   -- without a call
   pub met_none : (told : Option (List Call)) (c : Control) (calls k : ℕ) (x : Ended) (got : Sector) (i : ℕ) (step : jobs.JobStep) (n : jobs.Need) (out : Out) → c.failed ≡ None
       → (client_at c.clients k).job ≡ Busy i step → n ≡ need_now (plan_setting p) c k i step → need_call (run_setting p newest sizes) x i n ≡ None
-      → out ≡ meet (run_setting p newest sizes) c k x got (client_at c.clients k).left i n → Makes (run_setting p newest sizes) told c calls (Asks k x got) out calls told
-  met_none told c calls k x got i step n out live job need none is =
-      makes_none (run_setting p newest sizes) told c calls (Asks k x got) out live (met_call c k x got i step n job need ∙ none) (is ∙ met c k x got i step n job need)
+      → out ≡ meet (run_setting p newest sizes) c k x got (client_at c.clients k).left i n → (held : Option (List (List Sector))) → MakesTrue (run_setting p newest sizes) told c calls (Asks k x got) out calls held told
+  met_none told c calls k x got i step n out live job need none is held =
+      let silent = met_call c k x got i step n job need ∙ none in
+      silent_true (run_setting p newest sizes) told c calls (Asks k x got) out calls held told (called_live (run_setting p newest sizes) c (Asks k x got) live ∙ silent)
+      (makes_none (run_setting p newest sizes) told c calls (Asks k x got) out live silent (is ∙ met c k x got i step n job need))
 
   -- with one
   pub met_some : (told now : Option (List Call)) (c : Control) (calls k : ℕ) (x : Ended) (got : Sector) (i : ℕ) (step : jobs.JobStep) (n : jobs.Need) (out : Out) (call : Call) → c.failed ≡ None
       → (client_at c.clients k).job ≡ Busy i step → n ≡ need_now (plan_setting p) c k i step → need_call (run_setting p newest sizes) x i n ≡ Some call
-      → out ≡ meet (run_setting p newest sizes) c k x got (client_at c.clients k).left i n → Logs told now call → Makes (run_setting p newest sizes) told c calls (Asks k x got) out (calls + 1) now
-  met_some told now c calls k x got i step n out call live job need some is logs =
-      makes_some (run_setting p newest sizes) told now c calls (Asks k x got) out call live (met_call c k x got i step n job need ∙ some) (is ∙ met c k x got i step n job need) logs
+      → out ≡ meet (run_setting p newest sizes) c k x got (client_at c.clients k).left i n → Logs told now call → (held : Option (List (List Sector))) → ((place : ℕ) → call.what ≡ Read place → call.went ≡ true → Gives held now call.disk place got)
+      → MakesTrue (run_setting p newest sizes) told c calls (Asks k x got) out (calls + 1) held now
+  met_some told now c calls k x got i step n out call live job need some is logs held gives =
+      let asks = met_call c k x got i step n job need ∙ some in
+      let made = called_live (run_setting p newest sizes) c (Asks k x got) live ∙ asks in
+      record {
+        makes = makes_some (run_setting p newest sizes) told now c calls (Asks k x got) out call live asks (is ∙ met c k x got i step n job need) logs;
+        gave = λ other place it read went.
+            let same : call ≡ other = some_is call other (sym made ∙ it) in
+            subst (λ (z : Call). Gives held now z.disk place got) same (gives place (ap (λ (z : Call). z.what) same ∙ read) (ap (λ (z : Call). z.went) same ∙ went));
+      }
 
   pub submitted : (told : Option (List Call)) (c : Control) (calls k : ℕ) (x : Ended) (got : Sector) (out : Out) → c.failed ≡ None → (client_at c.clients k).job ≡ NoJob
-      → out ≡ submit_next (plan_setting p) c k (client_at c.clients k).left → Makes (run_setting p newest sizes) told c calls (Asks k x got) out calls told
-  submitted told c calls k x got out live job is =
-      makes_none (run_setting p newest sizes) told c calls (Asks k x got) out live (ap (job_call (run_setting p newest sizes) c k x) job)
-      (is ∙ next_same p newest sizes c k (client_at c.clients k).left ∙ sym (ap (client_by (run_setting p newest sizes) c k x got (client_at c.clients k).left) job))
+      → out ≡ submit_next (plan_setting p) c k (client_at c.clients k).left → (held : Option (List (List Sector))) → MakesTrue (run_setting p newest sizes) told c calls (Asks k x got) out calls held told
+  submitted told c calls k x got out live job is held =
+      let silent = ap (job_call (run_setting p newest sizes) c k x) job in
+      silent_true (run_setting p newest sizes) told c calls (Asks k x got) out calls held told (called_live (run_setting p newest sizes) c (Asks k x got) live ∙ silent)
+      (makes_none (run_setting p newest sizes) told c calls (Asks k x got) out live silent
+      (is ∙ next_same p newest sizes c k (client_at c.clients k).left ∙ sym (ap (client_by (run_setting p newest sizes) c k x got (client_at c.clients k).left) job)))

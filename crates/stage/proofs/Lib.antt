@@ -1,3 +1,5 @@
+pub mod Holding
+pub mod Truth
 pub mod Going
 pub mod Same
 pub mod Monitors

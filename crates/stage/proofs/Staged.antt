@@ -3,6 +3,7 @@ use Rattle.std.proofs.Common.{◌≡◌, ℕ, ◌+◌, ◌^◌, ◌<◌, ◌≤�
 use Rattle.std.proofs.lemmas.Bool.Decides.{nat_tests}
 use Rattle.imsm_base.specs.declared.units.Sector.{Sector}
 use Rattle.device_log.specs.Log.{Call}
+use Rattle.member_bank.specs.Told.{Keeps}
 use Rattle.array_model.specs.declared.script.OpKind.{OpKind}
 use Rattle.array_model.specs.declared.script.OpKind.TheVariants.{Write as OpWrite, Read as OpRead, Whole as OpWhole}
 use Rattle.array_model.specs.declared.journal.Entry.{Entry}
@@ -16,7 +17,7 @@ use Rattle.stage_machine.specs.States.{State, IsReadonly, IsReadAuto, IsClean, I
 use Rattle.stage_machine.specs.Jobs.{Job, NoJob, Busy, Got, Need, NoNeed, Reads, Writes, Syncs, Answers, client_at, place_at, any_writing, after_write, after_sync}
 use Rattle.stage_machine.specs.Machine.{Control, Action, Monitors, Asks, Quiets, Out, turn, turned, turned_unless, call_of, calls_after, stamped, moved, put_round, called, monitor_at, submit_write, submit_read, submit_kind, submit_unless, submit_next, put_client, meet, need_now, client_by, quieted, quiet_if}
 use Rattle.control_state.specs.declared.plan.Plan.{Plan}
-use Rattle.stage.specs.Runs.{Makes as Made}
+use Rattle.stage.specs.Runs.{Makes as Made, MakesTrue}
 use Rattle.stage.specs.Stages.{Seen, IsStage, Turns, setting_of}
 use Rattle.stage.proofs.Going.{goes_on}
 
@@ -140,15 +141,16 @@ out_rises S c a out is = subst (Rises c) (sym is) (turned_rises S c a c.failed)
 
 -- A TURN
 
-pub stage_goes : (S : Setting) (p : Plan) (sizes : List ℕ) (c : Control) (made : ℕ) (journal : List Entry) (room : ℕ) (told : Option (List Call)) (a : Action) (out : Out) (counted : ℕ) (entered : List Entry) (now : Option (List Call))
-    → IsStage S p sizes c made journal room told → made < 2 ^ 48 → Made S told c made a out counted now → entered ≡ journal ++ stamped counted out.events → IsStage S p sizes out.next counted entered room now
-stage_goes S p sizes c made journal room told a out counted entered now is few makes entries =
+pub stage_goes : (S : Setting) (p : Plan) (sizes : List ℕ) (c : Control) (made : ℕ) (journal : List Entry) (room : ℕ) (contents : Option (List (List Sector))) (told : Option (List Call)) (a : Action) (out : Out) (counted : ℕ) (entered : List Entry) (held : Option (List (List Sector))) (now : Option (List Call))
+    → IsStage S p sizes c made journal room contents told → made < 2 ^ 48 → MakesTrue S told c made a out counted held now → Keeps contents held → entered ≡ journal ++ stamped counted out.events → IsStage S p sizes out.next counted entered room held now
+stage_goes S p sizes c made journal room contents told a out counted entered held now is few turn_made keeps entries =
+    let makes = turn_made.makes in
     let notes = is.notes in
     let note : Rises c out = out_rises S c a out makes.is in
     let count = makes.count in
     let long : length entered ≡ length journal + length out.events = ap (λ (xs : List Entry). length xs) entries ∙ length-append journal (stamped counted out.events) ∙ ap (λ (k : ℕ). length journal + k) (length-stamped counted out.events) in
     record {
-      ran = goes_on S c made journal told a out counted entered now is.ran makes entries;
+      ran = goes_on S c made journal contents told a out counted entered held now is.ran turn_made keeps entries;
       fits = is.fits;
       few = omega (arith, few, count, one_call made (call_of S c a));
       notes = omega (arith, notes, note, long);

@@ -1,14 +1,15 @@
 -- A run of the machine that leads to what a stage is. Source: this project's own.
 use Rattle.std.specs.Prelude.{◌≡◌, ℕ, ◌+◌, ◌^◌, ◌≤◌, ◌<◌, true, List, [], ◌++◌, length, slice_index, Option, Some, None, ⊤}
 use Rattle.std.specs.List.{AllByRecursion}
+use Rattle.imsm_base.specs.declared.units.Sector.{Sector}
 use Rattle.imsm_base.specs.declared.bounds.TheConstants.{METADATA_SECTORS}
 use Rattle.device_log.specs.Log.{Call, What, Read, Write, Sync}
-use Rattle.member_bank.specs.Told.{Keeps, Logs}
+use Rattle.member_bank.specs.Told.{Keeps, Logs, Gives}
 use Rattle.array_model.specs.declared.journal.Entry.{Entry}
 use Rattle.array_model.specs.Blocks.{Laid}
 use Rattle.array_model.specs.Start.{disks_of}
 use Rattle.stage_machine.specs.Setting.{Setting, has}
-use Rattle.stage_machine.specs.Machine.{Control, Action, Out, Reached, turned, call_of, calls_after}
+use Rattle.stage_machine.specs.Machine.{Control, Action, Out, Reached, Honest, turned, call_of, calls_after, got_of}
 use Rattle.control_state.specs.declared.plan.Plan.{Plan}
 use Rattle.control_state.specs.Seen.{plan_setting, numbers}
 
@@ -40,6 +41,16 @@ pub record Makes (S : Setting) (told : Option (List Call)) (c : Control) (calls 
   pub count : counted ≡ calls_after calls (call_of S c a)
   pub logs : Tells told (call_of S c a) now
 
+-- a read that the action makes, and that goes through, gives what then stands there, as the bank tells it
+abbrev pub Gave : Setting → Control → Action → Option (List (List Sector)) → Option (List Call) → Type 0
+Gave S c a contents now =
+    (call : Call) (place : ℕ) → call_of S c a ≡ Some call → call.what ≡ Read place → call.went ≡ true → Gives contents now call.disk place (got_of a)
+
+-- a turn whose read gave what stood there
+pub record MakesTrue (S : Setting) (told : Option (List Call)) (c : Control) (calls : ℕ) (a : Action) (out : Out) (counted : ℕ) (contents : Option (List (List Sector))) (now : Option (List Call)) : Type 0 where
+  pub makes : Makes S told c calls a out counted now
+  pub gave : Gave S c a contents now
+
 abbrev pub IsReading : What → Type 0
 IsReading (Read place) = ⊤
 IsReading (Write place sectors stored) = ⊥
@@ -61,3 +72,15 @@ pub record Ran (S : Setting) (c : Control) (calls : ℕ) (journal : List Entry) 
   pub log : List Call
   pub run : Reached S (record { control = c; calls = calls; log = log; journal = journal })
   pub agrees : Agrees told before log
+
+-- the same setting, where the disks held these sectors when the run began
+abbrev pub holding : Setting → List (List Sector) → Setting
+holding S opening = record S {
+  start = record S.start { disks = record S.start.disks { opening = (disks_of [] [] opening).opening } };
+}
+
+-- the same of a run in which each read gave what stood there, where the bank tells what it held and its log
+pub record RanTrue (S : Setting) (c : Control) (calls : ℕ) (journal : List Entry) (contents : Option (List (List Sector))) (told : Option (List Call)) : Type 0 where
+  pub ran : Ran S c calls journal told
+  pub honest : (opening : List (List Sector)) (all : List Call) → contents ≡ Some opening → told ≡ Some all
+      → Honest (holding S opening) (record { control = c; calls = calls; log = ran.log; journal = journal })

@@ -15,7 +15,7 @@ use Rattle.control_state.specs.Seen.{numbers, no_sector}
 use Rattle.control_state.specs.Still.{is_still}
 use Rattle.stage.specs.declared.turned.Turned.{Turned}
 use Rattle.stage.specs.declared.turned.Turned.TheVariants.{Moved, Idle, JournalFull, Member}
-use Rattle.stage.specs.Runs.{FitsBank, Ran}
+use Rattle.stage.specs.Runs.{FitsBank, RanTrue}
 
 -- What a run takes as given: the operations, the disks that a round writes to and those of the volume, where the volume
 -- begins on them and its size, the newest block, and the sizes of all disks. All are in sectors.
@@ -67,9 +67,10 @@ pub record Seen (B : Type 0) : Type 0 where
   pub journal : List Entry
   pub room : ℕ
 
--- a run leads here; the plan's disks are in the bank; and there are numbers left for all that can still be entered
-pub record IsStage (S : Setting) (p : Plan) (sizes : List ℕ) (c : Control) (made : ℕ) (journal : List Entry) (room : ℕ) (told : Option (List Call)) : Type 0 where
-  pub ran : Ran S c made journal told
+-- a run leads here, whose reads gave what stood there; the plan's disks are in the bank; and there are numbers left for
+-- all that can still be entered
+pub record IsStage (S : Setting) (p : Plan) (sizes : List ℕ) (c : Control) (made : ℕ) (journal : List Entry) (room : ℕ) (contents : Option (List (List Sector))) (told : Option (List Call)) : Type 0 where
+  pub ran : RanTrue S c made journal contents told
   pub fits : FitsBank p sizes
   pub few : made ≤ 2 ^ 48
   pub notes : c.round.note + room + 1 < 2 ^ 32 + length journal

@@ -1,6 +1,7 @@
 //! What a client does in its turn, but for the entries.
 ghost use Rattle.std.specs.Prelude.{◌≡◌, ◌+◌, ◌^◌, ◌<◌, ℕ, None, []};
 ghost use Rattle.imsm_base.specs.declared.units.Sector.{Sector as SectorBytes};
+ghost use Rattle.member_bank.specs.Told.{Keeps};
 ghost use Rattle.array_model.specs.Blocks.{Laid};
 ghost use Rattle.stage_machine.specs.Jobs.{client_at, Busy};
 ghost use Rattle.stage_machine.specs.Rounds.{Ended};
@@ -8,7 +9,7 @@ ghost use Rattle.stage_machine.specs.Machine.{Asks, put_client, dropped};
 ghost use Rattle.control_state.specs.declared.plan.Plan.{Plan as PlanSeen};
 ghost use Rattle.control_state.specs.Seen.{numbers, step_of};
 ghost use Rattle.control_state.specs.Controls.{control_of, out_of};
-ghost use Rattle.stage.specs.Runs.{run_setting, FitsBank, Makes};
+ghost use Rattle.stage.specs.Runs.{run_setting, FitsBank, MakesTrue};
 
 use crate::calls::{read_row, write_row};
 use control_state::{Control, Events, JobStep, Need, Plan, Work};
@@ -46,7 +47,8 @@ fn meet<B: Bank>(
     requires calls { calls.old + 1 < 2 ^ 64 }
     requires fits { FitsBank plan.now (B.sizes bank.old) }
     requires job { (client_at (control_of plan.now control.old).clients k).job ≡ Busy work.op (step_of (numbers plan.now.members.items) work.step) }
-    ensures made { (newest : Laid) → (x : Ended) × (got : SectorBytes) × Makes (run_setting plan.now newest (B.sizes bank.old)) (B.log bank.old) (control_of plan.now control.old) calls.old (Asks k x got) (out_of plan.now control.new result) calls.new (B.log bank.new) }
+    ensures made { (newest : Laid) → (x : Ended) × (got : SectorBytes) × MakesTrue (run_setting plan.now newest (B.sizes bank.old)) (B.log bank.old) (control_of plan.now control.old) calls.old (Asks k x got) (out_of plan.now control.new result) calls.new (B.opening bank.new) (B.log bank.new) }
+    ensures opening { Keeps (B.opening bank.old) (B.opening bank.new) }
     ensures sizes { B.sizes bank.new ≡ B.sizes bank.old }
 {
     match control.need(plan, k, work) {
@@ -89,7 +91,8 @@ pub fn client_part<B: Bank>(
     requires live { control.old.failed ≡ None }
     requires calls { calls.old + 1 < 2 ^ 64 }
     requires fits { FitsBank plan.now (B.sizes bank.old) }
-    ensures made { (newest : Laid) → (x : Ended) × (got : SectorBytes) × Makes (run_setting plan.now newest (B.sizes bank.old)) (B.log bank.old) (control_of plan.now control.old) calls.old (Asks k x got) (out_of plan.now control.new result) calls.new (B.log bank.new) }
+    ensures made { (newest : Laid) → (x : Ended) × (got : SectorBytes) × MakesTrue (run_setting plan.now newest (B.sizes bank.old)) (B.log bank.old) (control_of plan.now control.old) calls.old (Asks k x got) (out_of plan.now control.new result) calls.new (B.opening bank.new) (B.log bank.new) }
+    ensures opening { Keeps (B.opening bank.old) (B.opening bank.new) }
     ensures sizes { B.sizes bank.new ≡ B.sizes bank.old }
 {
     match control.work(k) {

@@ -1,5 +1,6 @@
 //! Several turns in a row.
 ghost use Rattle.std.specs.Prelude.{◌≡◌, None};
+ghost use Rattle.member_bank.specs.Told.{Keeps};
 ghost use Rattle.stage.specs.declared.ends.DriveEnd.TheVariants.{Over};
 ghost use Rattle.stage.specs.Drives.{Follows, EndsBy, TurnEnds, Cycled, ClientsCycled, AllStill, went_after};
 
@@ -15,6 +16,7 @@ impl<B: Bank> Stage<B> {
     /// A turn of a script. The manager and a sync worker have nothing to do yet.
     fn turn(&mut self, turn: Turn) -> Turned
         ensures follows { Follows self.old self.new }
+        ensures opening { Keeps (B.opening self.old.bank) (B.opening self.new.bank) }
         ensures ends { TurnEnds self.new result }
     {
         match turn {
@@ -28,6 +30,7 @@ impl<B: Bank> Stage<B> {
     /// Makes turns in their order, until the journal is full or a call fails.
     pub fn drive(&mut self, turns: &[Turn]) -> DriveEnd
         ensures follows { Follows self.old self.new }
+        ensures opening { Keeps (B.opening self.old.bank) (B.opening self.new.bank) }
         ensures ends { EndsBy self.new result }
     {
         for turn in turns {
@@ -44,6 +47,7 @@ impl<B: Bank> Stage<B> {
     fn clients_cycle(&mut self) -> Cycle
         requires { self.old.control.failed ≡ None }
         ensures follows { Follows self.old self.new }
+        ensures opening { Keeps (B.opening self.old.bank) (B.opening self.new.bank) }
         ensures cycled { ClientsCycled self.old self.new result }
     {
         let mut went = false;
@@ -61,6 +65,7 @@ impl<B: Bank> Stage<B> {
     /// A turn of the monitor and of each client.
     fn cycle(&mut self) -> Cycle
         ensures follows { Follows self.old self.new }
+        ensures opening { Keeps (B.opening self.old.bank) (B.opening self.new.bank) }
         ensures cycled { Cycled self.old self.new result }
     {
         match self.monitor_turn() {
@@ -75,6 +80,7 @@ impl<B: Bank> Stage<B> {
     /// changes nothing.
     pub fn drain(&mut self) -> DriveEnd
         ensures follows { Follows self.old self.new }
+        ensures opening { Keeps (B.opening self.old.bank) (B.opening self.new.bank) }
         ensures ends { EndsBy self.new result }
         ensures over { result ≡ Over → AllStill self.new }
     {

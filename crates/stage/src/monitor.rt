@@ -1,6 +1,7 @@
 //! What the monitor does in its turn, but for the entries.
 ghost use Rattle.std.specs.Prelude.{◌≡◌, ◌+◌, ◌^◌, ◌<◌, ℕ, None};
 ghost use Rattle.imsm_base.specs.declared.units.Sector.{Sector as SectorBytes};
+ghost use Rattle.member_bank.specs.Told.{Keeps};
 ghost use Rattle.array_model.specs.Blocks.{Laid};
 ghost use Rattle.stage_machine.specs.Rounds.{Ended};
 ghost use Rattle.stage_machine.specs.Machine.{Monitors};
@@ -23,6 +24,7 @@ pub fn monitor_part<B: Bank>(
     requires room { control.old.round.note + 1 < 2 ^ 32 }
     requires fits { FitsBank plan.now (B.sizes bank.old) }
     ensures made { (newest : Laid) → (x : Ended) × Makes (run_setting plan.now newest (B.sizes bank.old)) (B.log bank.old) (control_of plan.now control.old) calls.old (Monitors x) (out_of plan.now control.new result) calls.new (B.log bank.new) }
+    ensures opening { Keeps (B.opening bank.old) (B.opening bank.new) }
     ensures sizes { B.sizes bank.new ≡ B.sizes bank.old }
 {
     match control.round.ask(plan) {

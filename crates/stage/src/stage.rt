@@ -1,6 +1,7 @@
 //! A stage over a bank: each of its turns is one of the machine.
 ghost use Rattle.std.specs.Prelude.{◌≡◌, ◌+◌, ◌<◌, ◌≤◌, IfOk, IfErr, ◌⊎◌, ◌++◌, ℕ, length, nat_lt, nat_le, ◌||◌, ◌^◌};
 ghost use Rattle.imsm_base.specs.declared.units.Sector.{Sector as SectorBytes};
+ghost use Rattle.member_bank.specs.Told.{Keeps};
 ghost use Rattle.stage_machine.specs.Rounds.{Ended};
 ghost use Rattle.stage_machine.specs.Machine.{Monitors, Asks, Quiets, stamped};
 ghost use Rattle.control_state.specs.Controls.{listed};
@@ -10,7 +11,7 @@ ghost use Rattle.imsm_codec.specs.Mpb.{block_bytes};
 ghost use Rattle.block_words.specs.Reading.{block_words};
 ghost use Rattle.control_state.specs.Book.{IsBook, IsBlockOf};
 ghost use Rattle.control_state.specs.Seen.{numbers};
-ghost use Rattle.stage.specs.Runs.{Ran, FitsDisks, OnlyReads};
+ghost use Rattle.stage.specs.Runs.{Ran, RanTrue, FitsDisks, OnlyReads};
 ghost use Rattle.stage.specs.Opens.{given_by, IsOpened};
 
 use crate::client::client_part;
@@ -49,7 +50,7 @@ impl<B: Bank> Model for Stage<B> {
 
     ghost view = { λ s. record { bank = s.bank; given = given_of s.plan (laid_at s.newest) (B.sizes s.bank); control = control_of s.plan s.control; calls = s.calls; journal = s.journal.entries; room = s.journal.room } };
 
-    ghost invariant = { λ s. IsStage (run_setting s.plan (laid_at s.newest) (B.sizes s.bank)) s.plan (B.sizes s.bank) (control_of s.plan s.control) s.calls s.journal.entries s.journal.room (B.log s.bank) };
+    ghost invariant = { λ s. IsStage (run_setting s.plan (laid_at s.newest) (B.sizes s.bank)) s.plan (B.sizes s.bank) (control_of s.plan s.control) s.calls s.journal.entries s.journal.room (B.opening s.bank) (B.log s.bank) };
 }
 
 /// Takes down what a turn enters.
@@ -130,7 +131,8 @@ impl<B: Bank> Stage<B> {
 
     /// The monitor's turn.
     pub fn monitor_turn(&mut self) -> Turned
-        ensures { (x : Ended) × Answered self.old self.new (Monitors x) result }
+        ensures answered { (x : Ended) × Answered self.old self.new (Monitors x) result }
+        ensures opening { Keeps (B.opening self.old.bank) (B.opening self.new.bank) }
     {
         if let Some(disk) = self.control.failed {
             return Turned::Member(disk);
@@ -153,7 +155,8 @@ impl<B: Bank> Stage<B> {
 
     /// A client's turn.
     pub fn client_turn(&mut self, k: u8) -> Turned
-        ensures { (x : Ended) × (got : SectorBytes) × Answered self.old self.new (Asks k x got) result }
+        ensures answered { (x : Ended) × (got : SectorBytes) × Answered self.old self.new (Asks k x got) result }
+        ensures opening { Keeps (B.opening self.old.bank) (B.opening self.new.bank) }
     {
         if let Some(disk) = self.control.failed {
             return Turned::Member(disk);
@@ -177,7 +180,8 @@ impl<B: Bank> Stage<B> {
 
     /// The volume rests, where no write is without an answer.
     pub fn quiet(&mut self) -> Turned
-        ensures { Answered self.old self.new Quiets result }
+        ensures answered { Answered self.old self.new Quiets result }
+        ensures opening { Keeps (B.opening self.old.bank) (B.opening self.new.bank) }
     {
         if let Some(disk) = self.control.failed {
             return Turned::Member(disk);
@@ -193,10 +197,11 @@ impl<B: Bank> Stage<B> {
         answer(self.control.failed)
     }
 
-    /// The bank and the journal, to which a run of the machine has led.
+    /// The bank and the journal, to which a run of the machine has led, in which each read gave what stood there.
     pub fn close(self) -> (B, Journal)
         ensures bank { (result.0 ≡ self.bank) × (result.1.entries ≡ self.journal) }
         ensures ran { Ran (setting_of self.given) self.control self.calls self.journal (B.log self.bank) }
+        ensures honest { RanTrue (setting_of self.given) self.control self.calls self.journal (B.opening self.bank) (B.log self.bank) }
     {
         let Stage { bank, journal, .. } = self;
         (bank, journal)

@@ -7,3 +7,5 @@ pub mod Targets
 pub mod Ours
 pub mod Finished
 pub mod Failed
+pub mod Cells
+pub mod Alike

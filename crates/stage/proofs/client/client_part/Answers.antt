@@ -11,5 +11,5 @@ returns-in-None-clause-made g c = λ newest.
       record { went = true; stored = 0 },
       sector_of 0,
       submitted p newest (g.B.Bank.sizes c.args.bank.now) (g.B.Bank.log c.args.bank.now) (control_of p c.args.control.now) c.args.calls.now c.args.k (record { went = true; stored = 0 }) (sector_of 0)
-          (out_of p c.submit.new.self c.submit.result) (ap failed_of c.requires.live) (sym (c.work.ensures p) ∙ ap (job_of (numbers p.members.items)) c.in-None.is) c.submit.ensures,
+          (out_of p c.submit.new.self c.submit.result) (ap failed_of c.requires.live) (sym (c.work.ensures p) ∙ ap (job_of (numbers p.members.items)) c.in-None.is) c.submit.ensures (g.B.Bank.opening c.args.bank.now),
     )

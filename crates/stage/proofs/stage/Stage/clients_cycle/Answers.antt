@@ -11,7 +11,7 @@ loop-k-preserved g c =
     let a = c.args.self.now in
     let b = c.loop-k.self in
     let n = c.client_turn.new.self in
-    let t = c.client_turn.ensures in
+    let t = c.client_turn.ensures.answered in
     let inv = c.loop-k.invariant in
     let follows = follows_on a b n inv.follows (answered_follows b n (Asks c.loop-k.k t.0 t.1) c.client_turn.result t.2) in
     elim c.match-client_turn.branch [
@@ -19,6 +19,7 @@ loop-k-preserved g c =
           let moved = subst (λ (r : Turned). Answered b n (Asks c.loop-k.k t.0 t.1) r) w.in-Moved.is t.2 in
           record {
             follows = follows;
+            opening = λ told is. inv.opening told (c.client_turn.ensures.opening told is);
             live = moved.1;
             spends = λ on. spends_moved a b n (Asks c.loop-k.k t.0 t.1) c.loop-k.went inv.spends (λ off. (inv.rests off).0) moved.0;
             rests = λ off. absurd (cc (off, w.went-is));
@@ -27,6 +28,7 @@ loop-k-preserved g c =
           let idle = subst (λ (r : Turned). Answered b n (Asks c.loop-k.k t.0 t.1) r) w.in-Idle.is t.2 in
           record {
             follows = follows;
+            opening = λ told is. inv.opening told (c.client_turn.ensures.opening told is);
             live = live_idle b n idle.0 inv.live;
             spends = λ on. spends_idle a b n idle.0 (inv.spends (sym w.went-is ∙ on));
             rests = λ off. rests_idle a b n c.loop-k.k t.0 t.1 (inv.rests (sym w.went-is ∙ off)) idle;

@@ -11,4 +11,4 @@ pub returns-in-Idle-clause-over : goal.returns-in-Idle-clause-over
 returns-in-Idle-clause-over g c = λ over.
     all_still c.loop-end.self c.cycle.new.self c.quiet.new.self
     (subst (λ (r : Cycle). Cycled c.loop-end.self c.cycle.new.self r) c.in-Rested.is c.cycle.ensures.cycled)
-    (subst (λ (r : Turned). Answered c.cycle.new.self c.quiet.new.self Quiets r) c.in-Idle.is c.quiet.ensures)
+    (subst (λ (r : Turned). Answered c.cycle.new.self c.quiet.new.self Quiets r) c.in-Idle.is c.quiet.ensures.answered)

@@ -1,9 +1,13 @@
 use Rattle.std.proofs.Common.{◌-◌}
+use Rattle.member_bank.specs.Told.{Keeps}
 use Rattle.stage.specs.Drives.{Follows, spent, budget}
 use Rattle.stage.proofs.stage.Stage.drain.Given as goal
 
 abbrev pub invariant-loop-end : goal.invariant-loop-end
-invariant-loop-end g l = Follows l.fn.self l.self
+invariant-loop-end g l = record {
+  follows : Follows l.fn.self l.self;
+  opening : Keeps (g.B.Bank.opening l.fn.self.bank) (g.B.Bank.opening l.self.bank);
+}
 
 abbrev pub decreases-loop-end : goal.decreases-loop-end
 decreases-loop-end g l = budget l.self - spent l.self

@@ -7,6 +7,7 @@ use Rattle.control_state.specs.Controls.{control_of, out_of, failed_of}
 use Rattle.stage.specs.declared.turned.Turned.TheVariants.{Idle, JournalFull, Member}
 use Rattle.stage.specs.Runs.{run_setting}
 use Rattle.stage.specs.Stages.{Seen, IsStage, Answered, setting_of, given_of, is_full}
+use Rattle.stage.proofs.Going.{monitor_true}
 use Rattle.stage.proofs.Staged.{stage_goes, turns_made, not_full}
 use Rattle.stage.proofs.Stilled.{still_same, answers_made}
 use Rattle.stage.proofs.stage.Stage.monitor_turn.Goals as goal
@@ -16,25 +17,28 @@ invariant_of-self g c =
     let p = c.self.inside.plan in
     let newest = laid_at c.self.inside.newest in
     let sizes = g.B.Bank.sizes c.self.inside.bank in
+    let contents = g.B.Bank.opening c.self.inside.bank in
     let told = g.B.Bank.log c.self.inside.bank in
     let C = control_of p c.self.inside.control in
     let made = c.self.inside.calls in
     let few = (not_full c.self.inside.journal.room _ made (sym c.is_full.ensures ∙ c.if-is_full.false)).1 in
     let out = out_of p c.monitor_part-events.new.control c.monitor_part-events.result in
+    let held = g.B.Bank.opening c.monitor_part-events.new.bank in
     let now = g.B.Bank.log c.monitor_part-events.new.bank in
     let m = c.monitor_part-events.ensures.made newest in
-    subst (λ (sz : List ℕ). IsStage (run_setting p newest sz) p sz out.next c.monitor_part-events.new.calls c.enter.new.journal.entries c.enter.new.journal.room now) (sym c.monitor_part-events.ensures.sizes)
-    (subst (λ (j : JournalState). IsStage (run_setting p newest sizes) p sizes out.next c.monitor_part-events.new.calls j.entries j.room now) (sym c.enter.ensures)
-    (stage_goes (run_setting p newest sizes) p sizes C made c.self.inside.journal.entries c.self.inside.journal.room told (Monitors m.0) out c.monitor_part-events.new.calls _ now c.self.invariant few m.1 refl))
+    subst (λ (sz : List ℕ). IsStage (run_setting p newest sz) p sz out.next c.monitor_part-events.new.calls c.enter.new.journal.entries c.enter.new.journal.room held now) (sym c.monitor_part-events.ensures.sizes)
+    (subst (λ (j : JournalState). IsStage (run_setting p newest sizes) p sizes out.next c.monitor_part-events.new.calls j.entries j.room held now) (sym c.enter.ensures)
+    (stage_goes (run_setting p newest sizes) p sizes C made c.self.inside.journal.entries c.self.inside.journal.room contents told (Monitors m.0) out c.monitor_part-events.new.calls _ held now c.self.invariant few
+    (monitor_true (run_setting p newest sizes) told C made m.0 out c.monitor_part-events.new.calls held now m.1) c.monitor_part-events.ensures.opening refl))
 
 -- a call failed before
-pub returns-in-Some : goal.returns-in-Some
-returns-in-Some g c =
+pub returns-in-Some-clause-answered : goal.returns-in-Some-clause-answered
+returns-in-Some-clause-answered g c =
     (record { went = true; stored = 0 }, subst (λ (v : Seen g.row.B.Denot). Answered v v (Monitors (record { went = true; stored = 0 })) (Member c.in-Some.disk)) c.self.view_is (ap failed_of c.in-Some.is, inl refl))
 
 -- there is nothing to do
-pub returns-then-monitor_is_still : goal.returns-then-monitor_is_still
-returns-then-monitor_is_still g c =
+pub returns-then-monitor_is_still-clause-answered : goal.returns-then-monitor_is_still-clause-answered
+returns-then-monitor_is_still-clause-answered g c =
     let p = c.self.inside.plan in
     let newest = laid_at c.self.inside.newest in
     let sizes = g.B.Bank.sizes c.self.inside.bank in
@@ -42,8 +46,8 @@ returns-then-monitor_is_still g c =
     (record { went = true; stored = 0 }, subst (λ (v : Seen g.row.B.Denot). Answered v v (Monitors (record { went = true; stored = 0 })) Idle) c.self.view_is (refl, ap failed_of c.in_default.is, sym (still_same p newest sizes C (Monitors (record { went = true; stored = 0 }))) ∙ sym (c.monitor_is_still.ensures (record { went = true; stored = 0 })) ∙ c.if-monitor_is_still.true))
 
 -- there is no room
-pub returns-then-is_full : goal.returns-then-is_full
-returns-then-is_full g c =
+pub returns-then-is_full-clause-answered : goal.returns-then-is_full-clause-answered
+returns-then-is_full-clause-answered g c =
     let p = c.self.inside.plan in
     let newest = laid_at c.self.inside.newest in
     let sizes = g.B.Bank.sizes c.self.inside.bank in
@@ -51,8 +55,8 @@ returns-then-is_full g c =
     (record { went = true; stored = 0 }, subst (λ (v : Seen g.row.B.Denot). Answered v v (Monitors (record { went = true; stored = 0 })) JournalFull) c.self.view_is (refl, ap failed_of c.in_default.is, sym (still_same p newest sizes C (Monitors (record { went = true; stored = 0 }))) ∙ sym (c.monitor_is_still.ensures (record { went = true; stored = 0 })) ∙ c.if-monitor_is_still.false, sym c.is_full.ensures ∙ c.if-is_full.true))
 
 -- the turn was made
-pub returns : goal.returns
-returns g c =
+pub returns-clause-answered : goal.returns-clause-answered
+returns-clause-answered g c =
     let p = c.self.inside.plan in
     let newest = laid_at c.self.inside.newest in
     let sizes = g.B.Bank.sizes c.self.inside.bank in

@@ -7,7 +7,8 @@ use Rattle.control_state.specs.Controls.{control_of, out_of, failed_of}
 use Rattle.stage.specs.declared.turned.Turned.TheVariants.{Idle, JournalFull, Member}
 use Rattle.stage.specs.Runs.{run_setting}
 use Rattle.stage.specs.Stages.{Seen, IsStage, Answered, setting_of, is_full}
-use Rattle.stage.proofs.Monitors.{makes_none}
+use Rattle.stage.proofs.Going.{silent_true}
+use Rattle.stage.proofs.Monitors.{makes_none, called_live}
 use Rattle.stage.proofs.Same.{quiet_same}
 use Rattle.stage.proofs.Staged.{stage_goes, turns_made, not_full}
 use Rattle.stage.proofs.Stilled.{still_same, answers_made}
@@ -18,23 +19,25 @@ invariant_of-self g c =
     let p = c.self.inside.plan in
     let newest = laid_at c.self.inside.newest in
     let sizes = g.B.Bank.sizes c.self.inside.bank in
+    let contents = g.B.Bank.opening c.self.inside.bank in
     let told = g.B.Bank.log c.self.inside.bank in
     let C = control_of p c.self.inside.control in
     let made = c.self.inside.calls in
     let few = (not_full c.self.inside.journal.room _ made (sym c.is_full.ensures ∙ c.if-is_full.false)).1 in
     let out = out_of p c.quiet-events.new.self c.quiet-events.result in
     let makes = makes_none (run_setting p newest sizes) told C made Quiets out (ap failed_of c.in_default.is) refl (c.quiet-events.ensures ∙ quiet_same p newest sizes C C.state) in
-    subst (λ (j : JournalState). IsStage (run_setting p newest sizes) p sizes out.next made j.entries j.room told) (sym c.enter.ensures)
-    (stage_goes (run_setting p newest sizes) p sizes C made c.self.inside.journal.entries c.self.inside.journal.room told Quiets out made _ told c.self.invariant few makes refl)
+    subst (λ (j : JournalState). IsStage (run_setting p newest sizes) p sizes out.next made j.entries j.room contents told) (sym c.enter.ensures)
+    (stage_goes (run_setting p newest sizes) p sizes C made c.self.inside.journal.entries c.self.inside.journal.room contents told Quiets out made _ contents told c.self.invariant few
+    (silent_true (run_setting p newest sizes) told C made Quiets out made contents told (called_live (run_setting p newest sizes) C Quiets (ap failed_of c.in_default.is)) makes) (λ opening at. at) refl)
 
 -- a call failed before
-pub returns-in-Some : goal.returns-in-Some
-returns-in-Some g c =
+pub returns-in-Some-clause-answered : goal.returns-in-Some-clause-answered
+returns-in-Some-clause-answered g c =
     subst (λ (v : Seen g.row.B.Denot). Answered v v (Quiets) (Member c.in-Some.disk)) c.self.view_is (ap failed_of c.in-Some.is, inl refl)
 
 -- there is nothing to do
-pub returns-then-quiet_is_still : goal.returns-then-quiet_is_still
-returns-then-quiet_is_still g c =
+pub returns-then-quiet_is_still-clause-answered : goal.returns-then-quiet_is_still-clause-answered
+returns-then-quiet_is_still-clause-answered g c =
     let p = c.self.inside.plan in
     let newest = laid_at c.self.inside.newest in
     let sizes = g.B.Bank.sizes c.self.inside.bank in
@@ -42,8 +45,8 @@ returns-then-quiet_is_still g c =
     subst (λ (v : Seen g.row.B.Denot). Answered v v (Quiets) Idle) c.self.view_is (refl, ap failed_of c.in_default.is, sym (still_same p newest sizes C (Quiets)) ∙ sym (c.quiet_is_still.ensures) ∙ c.if-quiet_is_still.true)
 
 -- there is no room
-pub returns-then-is_full : goal.returns-then-is_full
-returns-then-is_full g c =
+pub returns-then-is_full-clause-answered : goal.returns-then-is_full-clause-answered
+returns-then-is_full-clause-answered g c =
     let p = c.self.inside.plan in
     let newest = laid_at c.self.inside.newest in
     let sizes = g.B.Bank.sizes c.self.inside.bank in
@@ -51,8 +54,8 @@ returns-then-is_full g c =
     subst (λ (v : Seen g.row.B.Denot). Answered v v (Quiets) JournalFull) c.self.view_is (refl, ap failed_of c.in_default.is, sym (still_same p newest sizes C (Quiets)) ∙ sym (c.quiet_is_still.ensures) ∙ c.if-quiet_is_still.false, sym c.is_full.ensures ∙ c.if-is_full.true)
 
 -- the turn was made
-pub returns : goal.returns
-returns g c =
+pub returns-clause-answered : goal.returns-clause-answered
+returns-clause-answered g c =
     let p = c.self.inside.plan in
     let newest = laid_at c.self.inside.newest in
     let sizes = g.B.Bank.sizes c.self.inside.bank in
