@@ -1,6 +1,7 @@
 -- What contracts see of a stage, and what a turn leaves of it. Source: this project's own.
 use Rattle.std.specs.Prelude.{◌≡◌, ℕ, ◌+◌, ◌^◌, ◌<◌, ◌≤◌, ◌||◌, nat_lt, nat_le, Bool, true, false, List, [], ◌++◌, length, Option, Some, None, ◌⊎◌}
 use Rattle.imsm_base.specs.declared.units.Level.TheVariants.{One}
+use Rattle.imsm_base.specs.declared.units.Sector.{Sector}
 use Rattle.device_log.specs.Log.{Call}
 use Rattle.array_model.specs.declared.journal.Entry.{Entry}
 use Rattle.array_model.specs.declared.script.Op.{Op}
