@@ -46,5 +46,6 @@ opened p newest c targets members pba size limit sizes j contents told begins on
       ran = subst (λ (x : Control). RanTrue (run_setting p (laid_at newest) sizes) x 0 [] contents told) (sym begins) (ran_open p (laid_at newest) sizes contents told reads);
       fits = fits_as p targets members pba size sizes one two three four fits;
       few = omega arith;
+      within = omega arith;
       notes = omega (arith, note, generation, few);
     })

@@ -17,6 +17,9 @@ use Rattle.stage_machine.specs.States.{State, IsReadonly, IsReadAuto, IsClean, I
 use Rattle.stage_machine.specs.Jobs.{Job, NoJob, Busy, Got, Need, NoNeed, Reads, Writes, Syncs, Answers, client_at, place_at, any_writing, after_write, after_sync}
 use Rattle.stage_machine.specs.Machine.{Control, Action, Monitors, Asks, Quiets, Out, turn, turned, turned_unless, call_of, calls_after, stamped, moved, put_round, called, monitor_at, submit_write, submit_read, submit_kind, submit_unless, submit_next, put_client, meet, need_now, client_by, quieted, quiet_if}
 use Rattle.control_state.specs.declared.plan.Plan.{Plan}
+use Rattle.control_state.specs.declared.control.Events.{Events}
+use Rattle.control_state.specs.declared.control.Events.TheVariants.{Zero, One, Two}
+use Rattle.control_state.specs.Controls.{listed}
 use Rattle.stage.specs.Runs.{Makes as Made, MakesTrue}
 use Rattle.stage.specs.Stages.{Seen, IsStage, Turns, setting_of}
 use Rattle.stage.proofs.Going.{goes_on}
@@ -37,6 +40,19 @@ not_full room len made is = by (nat_lt room (len + 4)) (nat_le (2 ^ 48) made) re
     by true b one two is = absurd (cc is)
     by false true one two is = absurd (cc is)
     by false false one two is = (grind (arith, nat_tests, one), grind (arith, nat_tests, two))
+
+at_most_two : (events : Events) → length (listed events) ≤ 2
+at_most_two Zero = omega arith
+at_most_two (One e) = omega arith
+at_most_two (Two e f) = omega arith
+
+-- what a turn enters has room
+pub entered_within : (room made : ℕ) (journal : List Entry) (stamp : ℕ) (events : Events) → (nat_lt room (length journal + 4) || nat_le (2 ^ 48) made) ≡ false → length (journal ++ stamped stamp (listed events)) ≤ room
+entered_within room made journal stamp events is =
+    let room_left = (not_full room (length journal) made is).0 in
+    let two = at_most_two events in
+    let long : length (journal ++ stamped stamp (listed events)) ≡ length journal + length (listed events) = length-append journal (stamped stamp (listed events)) ∙ ap (λ (k : ℕ). length journal + k) (length-stamped stamp (listed events)) in
+    omega (arith, room_left, two, long)
 
 -- what a turn makes is seen of the stage
 pub turns_made : {B : Type 0} (v a b : Seen B) (act : Action) (out : Out) (told now : Option (List Call)) → v ≡ a → Made (setting_of v.given) told v.control v.calls act out b.calls now
@@ -142,8 +158,8 @@ out_rises S c a out is = subst (Rises c) (sym is) (turned_rises S c a c.failed)
 -- A TURN
 
 pub stage_goes : (S : Setting) (p : Plan) (sizes : List ℕ) (c : Control) (made : ℕ) (journal : List Entry) (room : ℕ) (contents : Option (List (List Sector))) (told : Option (List Call)) (a : Action) (out : Out) (counted : ℕ) (entered : List Entry) (held : Option (List (List Sector))) (now : Option (List Call))
-    → IsStage S p sizes c made journal room contents told → made < 2 ^ 48 → MakesTrue S told c made a out counted held now → Keeps contents held → entered ≡ journal ++ stamped counted out.events → IsStage S p sizes out.next counted entered room held now
-stage_goes S p sizes c made journal room contents told a out counted entered held now is few turn_made keeps entries =
+    → IsStage S p sizes c made journal room contents told → made < 2 ^ 48 → length entered ≤ room → MakesTrue S told c made a out counted held now → Keeps contents held → entered ≡ journal ++ stamped counted out.events → IsStage S p sizes out.next counted entered room held now
+stage_goes S p sizes c made journal room contents told a out counted entered held now is few within turn_made keeps entries =
     let makes = turn_made.makes in
     let notes = is.notes in
     let note : Rises c out = out_rises S c a out makes.is in
@@ -153,5 +169,6 @@ stage_goes S p sizes c made journal room contents told a out counted entered hel
       ran = goes_on S c made journal contents told a out counted entered held now is.ran turn_made keeps entries;
       fits = is.fits;
       few = omega (arith, few, count, one_call made (call_of S c a));
+      within = within;
       notes = omega (arith, notes, note, long);
     }

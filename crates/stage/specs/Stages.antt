@@ -68,12 +68,13 @@ pub record Seen (B : Type 0) : Type 0 where
   pub journal : List Entry
   pub room : ℕ
 
--- a run leads here, whose reads gave what stood there; the plan's disks are in the bank; and there are numbers left for
--- all that can still be entered
+-- a run leads here, whose reads gave what stood there; the plan's disks are in the bank; the journal has the
+-- room that it says; and there are numbers left for all that can still be entered
 pub record IsStage (S : Setting) (p : Plan) (sizes : List ℕ) (c : Control) (made : ℕ) (journal : List Entry) (room : ℕ) (contents : Option (List (List Sector))) (told : Option (List Call)) : Type 0 where
   pub ran : RanTrue S c made journal contents told
   pub fits : FitsBank p sizes
   pub few : made ≤ 2 ^ 48
+  pub within : length journal ≤ room
   pub notes : c.round.note + room + 1 < 2 ^ 32 + length journal
 
 -- the journal has fewer than four entries left, or as many calls were made as there may be

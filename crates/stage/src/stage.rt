@@ -2,6 +2,7 @@
 ghost use Rattle.std.specs.Prelude.{◌≡◌, ◌+◌, ◌<◌, ◌≤◌, IfOk, IfErr, ◌⊎◌, ◌++◌, ℕ, length, nat_lt, nat_le, ◌||◌, ◌^◌};
 ghost use Rattle.imsm_base.specs.declared.units.Sector.{Sector as SectorBytes};
 ghost use Rattle.member_bank.specs.Told.{Keeps};
+ghost use Rattle.array_model.specs.Renewal.{FitsGeneration};
 ghost use Rattle.stage_machine.specs.Rounds.{Ended};
 ghost use Rattle.stage_machine.specs.Machine.{Monitors, Asks, Quiets, stamped};
 ghost use Rattle.control_state.specs.Controls.{listed};
@@ -197,11 +198,13 @@ impl<B: Bank> Stage<B> {
         answer(self.control.failed)
     }
 
-    /// The bank and the journal, to which a run of the machine has led, in which each read gave what stood there.
+    /// The bank and the journal, to which a run of the machine has led, in which each read gave what stood there. Its
+    /// generations fit their four bytes.
     pub fn close(self) -> (B, Journal)
         ensures bank { (result.0 ≡ self.bank) × (result.1.entries ≡ self.journal) }
         ensures ran { Ran (setting_of self.given) self.control self.calls self.journal (B.log self.bank) }
         ensures honest { RanTrue (setting_of self.given) self.control self.calls self.journal (B.opening self.bank) (B.log self.bank) }
+        ensures fits { FitsGeneration self.control.round.note }
     {
         let Stage { bank, journal, .. } = self;
         (bank, journal)

@@ -8,7 +8,7 @@ use Rattle.control_state.specs.Controls.{control_of, out_of, failed_of}
 use Rattle.stage.specs.declared.turned.Turned.TheVariants.{Idle, JournalFull, Member}
 use Rattle.stage.specs.Runs.{run_setting}
 use Rattle.stage.specs.Stages.{Seen, IsStage, Answered, setting_of, given_of, is_full}
-use Rattle.stage.proofs.Staged.{stage_goes, turns_made, not_full}
+use Rattle.stage.proofs.Staged.{entered_within, stage_goes, turns_made, not_full}
 use Rattle.stage.proofs.Stilled.{still_same, answers_made}
 use Rattle.stage.proofs.stage.Stage.client_turn.Goals as goal
 
@@ -28,7 +28,7 @@ invariant_of-self g c =
     let m = c.client_part-events.ensures.made newest in
     subst (λ (sz : List ℕ). IsStage (run_setting p newest sz) p sz out.next c.client_part-events.new.calls c.enter.new.journal.entries c.enter.new.journal.room held now) (sym c.client_part-events.ensures.sizes)
     (subst (λ (j : JournalState). IsStage (run_setting p newest sizes) p sizes out.next c.client_part-events.new.calls j.entries j.room held now) (sym c.enter.ensures)
-    (stage_goes (run_setting p newest sizes) p sizes C made c.self.inside.journal.entries c.self.inside.journal.room contents told (Asks c.args.k m.0 m.1) out c.client_part-events.new.calls _ held now c.self.invariant few m.2 c.client_part-events.ensures.opening refl))
+    (stage_goes (run_setting p newest sizes) p sizes C made c.self.inside.journal.entries c.self.inside.journal.room contents told (Asks c.args.k m.0 m.1) out c.client_part-events.new.calls _ held now c.self.invariant few (entered_within c.self.inside.journal.room made c.self.inside.journal.entries c.client_part-events.new.calls c.client_part-events.result (sym c.is_full.ensures ∙ c.if-is_full.false)) m.2 c.client_part-events.ensures.opening refl))
 
 -- a call failed before
 pub returns-in-Some-clause-answered : goal.returns-in-Some-clause-answered

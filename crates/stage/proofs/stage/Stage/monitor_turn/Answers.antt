@@ -8,7 +8,7 @@ use Rattle.stage.specs.declared.turned.Turned.TheVariants.{Idle, JournalFull, Me
 use Rattle.stage.specs.Runs.{run_setting}
 use Rattle.stage.specs.Stages.{Seen, IsStage, Answered, setting_of, given_of, is_full}
 use Rattle.stage.proofs.Going.{monitor_true}
-use Rattle.stage.proofs.Staged.{stage_goes, turns_made, not_full}
+use Rattle.stage.proofs.Staged.{entered_within, stage_goes, turns_made, not_full}
 use Rattle.stage.proofs.Stilled.{still_same, answers_made}
 use Rattle.stage.proofs.stage.Stage.monitor_turn.Goals as goal
 
@@ -29,6 +29,7 @@ invariant_of-self g c =
     subst (λ (sz : List ℕ). IsStage (run_setting p newest sz) p sz out.next c.monitor_part-events.new.calls c.enter.new.journal.entries c.enter.new.journal.room held now) (sym c.monitor_part-events.ensures.sizes)
     (subst (λ (j : JournalState). IsStage (run_setting p newest sizes) p sizes out.next c.monitor_part-events.new.calls j.entries j.room held now) (sym c.enter.ensures)
     (stage_goes (run_setting p newest sizes) p sizes C made c.self.inside.journal.entries c.self.inside.journal.room contents told (Monitors m.0) out c.monitor_part-events.new.calls _ held now c.self.invariant few
+    (entered_within c.self.inside.journal.room made c.self.inside.journal.entries c.monitor_part-events.new.calls c.monitor_part-events.result (sym c.is_full.ensures ∙ c.if-is_full.false))
     (monitor_true (run_setting p newest sizes) told C made m.0 out c.monitor_part-events.new.calls held now m.1) c.monitor_part-events.ensures.opening refl))
 
 -- a call failed before
