@@ -57,7 +57,7 @@ more_orders s (Operation c k) is named within =
     record {
       few_ops = omega (arith, length-append s.ops (op ∷ []), few_ops _ both.0);
       few_turns = is.few_turns;
-      ops = all_more IsOperation s.ops (op ∷ []) is.ops (record { client = low_client c both.1; volume = named }, tt);
+      ops = all_more IsOperation s.ops (op ∷ []) is.ops (record { client = low_client c both.1; row = named }, tt);
       turns = is.turns;
     }
 more_orders s (Turns t count) is named within = more_turns s t count is within named

@@ -10,7 +10,7 @@ use Rattle.run_script.specs.declared.fault.LineKind.{LineKind}
 use Rattle.run_script.specs.Forms.{Form, Ends, Keyword, Numeral, Digits, Wrong, or_wrong, passing, reading}
 use Rattle.run_script.specs.Grammar.{asked_by, client_form, turn_form, if_read, is_skipped, line_form, words_of}
 use Rattle.run_script.specs.Numbers.{number_of, value_of}
-use Rattle.run_script.specs.Within.{IsTurn, NamesVolume}
+use Rattle.run_script.specs.Within.{IsTurn, NamesRow}
 
 abbrev pub EndsIn : (Order → Type 0) → Form → Type 0
 EndsIn P (Ends order) = P order
@@ -57,7 +57,7 @@ read_ends P (Wrong kind) words order ends is = no_order kind order is
 
 -- an order of the grammar names a volume that there may be
 abbrev pub IsOrder : Order → Type 0
-IsOrder (Operation client kind) = NamesVolume kind
+IsOrder (Operation client kind) = NamesRow kind
 IsOrder (Turns turn count) = IsTurn turn
 IsOrder (ClientTurns client count) = ⊤
 

@@ -10,16 +10,16 @@ use Rattle.array_model.specs.declared.script.Turn.{Turn}
 use Rattle.array_model.specs.declared.script.Turn.TheVariants.{Monitor, Manager, Sync, Client, Quiet, Fail, Kill, Takeover}
 use Rattle.run_script.specs.declared.limits.TheConstants.{MAX_OPS, MAX_TURNS, MAX_CLIENT}
 
--- it names a volume that there may be
-abbrev pub NamesVolume : OpKind → Type 0
-NamesVolume (Write v sector value) = v.0 < MAX_VOLUMES
-NamesVolume (Read v sector) = v.0 < MAX_VOLUMES
-NamesVolume (Whole v) = v.0 < MAX_VOLUMES
+-- it reads or writes a row of a volume that there may be; no line asks for anything else yet
+abbrev pub NamesRow : OpKind → Type 0
+NamesRow (Write v sector value) = v.0 < MAX_VOLUMES
+NamesRow (Read v sector) = v.0 < MAX_VOLUMES
+NamesRow (Whole v) = ⊥
 
--- an operation of a client, on a volume, that there may be
+-- an operation of a client, on a row of a volume, that there may be
 pub record IsOperation (op : Op) : Type 0 where
   pub client : op.client ≤ MAX_CLIENT
-  pub volume : NamesVolume op.kind
+  pub row : NamesRow op.kind
 
 -- a turn of a client, on a volume, of a disk, that there may be
 abbrev pub IsTurn : Turn → Type 0

@@ -32,7 +32,7 @@ pub fn parse_script(alloc: Global, text: &[u8], turns: bool) -> Result<Script, S
     ensures whole { OnOk result (AreRight turns (lines_of text.now) (length (lines_of text.now))) }
     // The script is what the lines ask for, in their order.
     ensures script { IfOk result (λ script. script ≡ script_of (orders_in turns (lines_of text.now))) }
-    // No limit is passed, and what it names may be there.
+    // No limit is passed, what it names may be there, and its operations read and write rows alone.
     ensures within { IfOk result (λ script. IsWithin script) }
     // Of a fault other than want of memory: it is what is wrong with the first line that isn't right.
     ensures fault { IfErr result (λ fault. IsCause turns (lines_of text.now) fault) }
