@@ -8,3 +8,4 @@ pub mod Staged
 pub mod Opened
 pub mod Stilled
 pub mod Driven
+pub mod Kept

@@ -4,3 +4,4 @@ pub mod Stages
 pub mod Opens
 pub mod Ends
 pub mod Drives
+pub mod Causes

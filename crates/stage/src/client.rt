@@ -8,8 +8,9 @@ ghost use Rattle.stage_machine.specs.Rounds.{Ended};
 ghost use Rattle.stage_machine.specs.Machine.{Asks, put_client, dropped};
 ghost use Rattle.control_state.specs.declared.plan.Plan.{Plan as PlanSeen};
 ghost use Rattle.control_state.specs.Seen.{numbers, step_of};
-ghost use Rattle.control_state.specs.Controls.{control_of, out_of};
+ghost use Rattle.control_state.specs.Controls.{control_of, out_of, failed_of};
 ghost use Rattle.stage.specs.Runs.{run_setting, FitsBank, MakesTrue};
+ghost use Rattle.stage.specs.Causes.{Counts};
 
 use crate::calls::{read_row, write_row};
 use control_state::{Control, Events, JobStep, Need, Plan, Work};
@@ -50,6 +51,8 @@ fn meet<B: Bank>(
     ensures made { (newest : Laid) → (x : Ended) × (got : SectorBytes) × MakesTrue (run_setting plan.now newest (B.sizes bank.old)) (B.log bank.old) (control_of plan.now control.old) calls.old (Asks k x got) (out_of plan.now control.new result) calls.new (B.opening bank.new) (B.log bank.new) }
     ensures opening { Keeps (B.opening bank.old) (B.opening bank.new) }
     ensures sizes { B.sizes bank.new ≡ B.sizes bank.old }
+    ensures serials { B.serials bank.new ≡ B.serials bank.old }
+    ensures cause { Counts (B.faults_of bank.old) (B.faults_of bank.new) (failed_of control.new.failed) }
 {
     match control.need(plan, k, work) {
         Need::Nothing => Events::Zero,
@@ -94,6 +97,8 @@ pub fn client_part<B: Bank>(
     ensures made { (newest : Laid) → (x : Ended) × (got : SectorBytes) × MakesTrue (run_setting plan.now newest (B.sizes bank.old)) (B.log bank.old) (control_of plan.now control.old) calls.old (Asks k x got) (out_of plan.now control.new result) calls.new (B.opening bank.new) (B.log bank.new) }
     ensures opening { Keeps (B.opening bank.old) (B.opening bank.new) }
     ensures sizes { B.sizes bank.new ≡ B.sizes bank.old }
+    ensures serials { B.serials bank.new ≡ B.serials bank.old }
+    ensures cause { Counts (B.faults_of bank.old) (B.faults_of bank.new) (failed_of control.new.failed) }
 {
     match control.work(k) {
         None => control.submit(plan, k),

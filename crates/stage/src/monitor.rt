@@ -5,8 +5,9 @@ ghost use Rattle.member_bank.specs.Told.{Keeps};
 ghost use Rattle.array_model.specs.Blocks.{Laid};
 ghost use Rattle.stage_machine.specs.Rounds.{Ended};
 ghost use Rattle.stage_machine.specs.Machine.{Monitors};
-ghost use Rattle.control_state.specs.Controls.{control_of, out_of};
+ghost use Rattle.control_state.specs.Controls.{control_of, out_of, failed_of};
 ghost use Rattle.stage.specs.Runs.{run_setting, FitsBank, Makes};
+ghost use Rattle.stage.specs.Causes.{Counts};
 
 use crate::calls::round_call;
 use control_state::{Control, Events, Plan};
@@ -26,6 +27,8 @@ pub fn monitor_part<B: Bank>(
     ensures made { (newest : Laid) → (x : Ended) × Makes (run_setting plan.now newest (B.sizes bank.old)) (B.log bank.old) (control_of plan.now control.old) calls.old (Monitors x) (out_of plan.now control.new result) calls.new (B.log bank.new) }
     ensures opening { Keeps (B.opening bank.old) (B.opening bank.new) }
     ensures sizes { B.sizes bank.new ≡ B.sizes bank.old }
+    ensures serials { B.serials bank.new ≡ B.serials bank.old }
+    ensures cause { Counts (B.faults_of bank.old) (B.faults_of bank.new) (failed_of control.new.failed) }
 {
     match control.round.ask(plan) {
         None => control.monitor_rest(plan),

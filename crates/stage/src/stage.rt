@@ -14,6 +14,7 @@ ghost use Rattle.control_state.specs.Book.{IsBook, IsBlockOf};
 ghost use Rattle.control_state.specs.Seen.{numbers};
 ghost use Rattle.stage.specs.Runs.{Ran, RanTrue, FitsDisks, OnlyReads};
 ghost use Rattle.stage.specs.Opens.{given_by, IsOpened};
+ghost use Rattle.stage.specs.Causes.{KeepsBank};
 
 use crate::client::client_part;
 use crate::monitor::monitor_part;
@@ -134,6 +135,7 @@ impl<B: Bank> Stage<B> {
     pub fn monitor_turn(&mut self) -> Turned
         ensures answered { (x : Ended) × Answered self.old self.new (Monitors x) result }
         ensures opening { Keeps (B.opening self.old.bank) (B.opening self.new.bank) }
+        ensures bank { KeepsBank B.serials B.sizes B.faults_of self.old self.new }
     {
         if let Some(disk) = self.control.failed {
             return Turned::Member(disk);
@@ -158,6 +160,7 @@ impl<B: Bank> Stage<B> {
     pub fn client_turn(&mut self, k: u8) -> Turned
         ensures answered { (x : Ended) × (got : SectorBytes) × Answered self.old self.new (Asks k x got) result }
         ensures opening { Keeps (B.opening self.old.bank) (B.opening self.new.bank) }
+        ensures bank { KeepsBank B.serials B.sizes B.faults_of self.old self.new }
     {
         if let Some(disk) = self.control.failed {
             return Turned::Member(disk);
@@ -183,6 +186,7 @@ impl<B: Bank> Stage<B> {
     pub fn quiet(&mut self) -> Turned
         ensures answered { Answered self.old self.new Quiets result }
         ensures opening { Keeps (B.opening self.old.bank) (B.opening self.new.bank) }
+        ensures bank { KeepsBank B.serials B.sizes B.faults_of self.old self.new }
     {
         if let Some(disk) = self.control.failed {
             return Turned::Member(disk);

@@ -2,11 +2,14 @@ use Rattle.std.proofs.Common.{Bool, true, false, [], refl, sym, ap, subst, ◌�
 use Rattle.std.specs.Prelude.{slice_index, if◌then◌else◌}
 use Rattle.member_bank.specs.Told.{Logs}
 use Rattle.control_state.specs.Book.{laid_at}
-use Rattle.control_state.specs.Seen.{numbers}
+use Rattle.stage_machine.specs.Rounds.{Ended}
+use Rattle.stage_machine.specs.Machine.{Out}
+use Rattle.control_state.specs.Seen.{numbers, plan_setting}
 use Rattle.control_state.specs.Rounds.{ask_of, step_of}
 use Rattle.control_state.specs.Controls.{control_of, out_of, failed_of}
 use Rattle.stage.specs.Asked.{asked_of}
 use Rattle.stage.proofs.Monitors.{asked_has, call_made, monitor_rested, monitor_went, monitor_failed}
+use Rattle.stage.proofs.Kept.{counts_same, rest_live}
 use Rattle.stage.proofs.monitor.monitor_part.Goals as goal
 
 pub round_call-requires-clause-disk : goal.round_call-requires-clause-disk
@@ -27,6 +30,14 @@ returns-in-None-clause-made g c = λ newest. (
   monitor_rested c.args.plan.now newest (g.B.Bank.sizes c.args.bank.now) (g.B.Bank.log c.args.bank.now) (control_of c.args.plan.now c.args.control.now) c.args.calls.now (record { went = true; stored = 0 })
       (out_of c.args.plan.now c.monitor_rest.new.self c.monitor_rest.result) (ap failed_of c.requires.live) (sym c.ask.ensures ∙ ap ask_of c.in-None.is) (c.monitor_rest.ensures (record { went = true; stored = 0 })),
 )
+
+-- nothing was called
+pub returns-in-None-clause-cause : goal.returns-in-None-clause-cause
+returns-in-None-clause-cause g c =
+    let C = control_of c.args.plan.now c.args.control.now in
+    let x : Ended = record { went = true; stored = 0 } in
+    counts_same (g.B.Bank.faults_of c.args.bank.now) (failed_of c.monitor_rest.new.self.failed)
+    (ap (λ (o : Out). o.next.failed) (c.monitor_rest.ensures x) ∙ rest_live (plan_setting c.args.plan.now) C x C.round.phase (sym c.ask.ensures ∙ ap ask_of c.in-None.is) ∙ ap failed_of c.requires.live)
 
 pub returns-then-round_call-clause-made : goal.returns-then-round_call-clause-made
 returns-then-round_call-clause-made g c = λ newest.

@@ -1,0 +1,78 @@
+-- Turns that follow one another keep the bank, and without a call no disk fails.
+use Rattle.std.proofs.Common.{◌≡◌, ℕ, ◌≤◌, Bool, true, false, List, [], ◌∷◌, Option, Some, None, refl, ap, sym, subst, ◌∙◌, arith}
+use Rattle.imsm_base.specs.declared.units.Serial.{Serial}
+use Rattle.array_model.specs.declared.script.OpKind.{OpKind}
+use Rattle.array_model.specs.declared.script.OpKind.TheVariants.{Write as OpWrite, Read as OpRead, Whole as OpWhole}
+use Rattle.array_model.specs.Placement.{Place}
+use Rattle.array_model.specs.Script.{kind_at}
+use Rattle.member_bank.specs.Faults.{Rose}
+use Rattle.stage_machine.specs.Setting.{Setting}
+use Rattle.stage_machine.specs.Rounds.{Phase, Rest, Going, Ended}
+use Rattle.stage_machine.specs.States.{Move, Nothing, Starts, Makes, decide, is_readonly}
+use Rattle.stage_machine.specs.Jobs.{place_at}
+use Rattle.stage_machine.specs.Machine.{Control, Out, monitor_at, moved, submit_next, submit_unless, submit_kind, submit_write, submit_read}
+use Rattle.control_state.specs.Rounds.{next_ask}
+use Rattle.stage.specs.Stages.{Seen}
+use Rattle.stage.specs.Causes.{Counts, KeepsBank}
+
+-- WITHOUT A CALL NO DISK FAILS
+
+abbrev pub failed_in : Out → Option ℕ
+failed_in out = out.next.failed
+
+moved_live : (S : Setting) (c : Control) (move : Move) → failed_in (moved S c move) ≡ c.failed
+moved_live S c Nothing = refl
+moved_live S c Starts = refl
+moved_live S c (Makes to event) = refl
+
+pub rest_live : (S : Setting) (c : Control) (x : Ended) (phase : Phase) → next_ask phase ≡ None → failed_in (monitor_at S c x phase) ≡ c.failed
+rest_live S c x Rest none = moved_live S c (decide c.round.started c.state (S.start.words.is_dirty c.round.last 0) (S.start.words.is_dirty c.round.book 0))
+rest_live S c x (Going m step []) none = refl
+rest_live S c x (Going m step (d ∷ ds)) none = absurd (cc none)
+
+write_live : (c : Control) (k i : ℕ) (rest : List ℕ) (place : Option Place) → failed_in (submit_write c k i rest place) ≡ c.failed
+write_live c k i rest None = refl
+write_live c k i rest (Some place) = refl
+
+read_live : (c : Control) (k i : ℕ) (rest : List ℕ) (place : Option Place) → failed_in (submit_read c k i rest place) ≡ c.failed
+read_live c k i rest None = refl
+read_live c k i rest (Some place) = refl
+
+kind_live : (S : Setting) (c : Control) (k i : ℕ) (rest : List ℕ) (kind : Option OpKind) → failed_in (submit_kind S c k i rest kind) ≡ c.failed
+kind_live S c k i rest None = refl
+kind_live S c k i rest (Some (OpWrite v s value)) = write_live c k i rest (place_at S i)
+kind_live S c k i rest (Some (OpRead v s)) = read_live c k i rest (place_at S i)
+kind_live S c k i rest (Some (OpWhole v)) = refl
+
+unless_live : (S : Setting) (c : Control) (k i : ℕ) (rest : List ℕ) (readonly : Bool) → failed_in (submit_unless S c k i rest readonly) ≡ c.failed
+unless_live S c k i rest true = refl
+unless_live S c k i rest false = kind_live S c k i rest (kind_at S.asked.ops i)
+
+pub submit_live : (S : Setting) (c : Control) (k : ℕ) (left : List ℕ) → failed_in (submit_next S c k left) ≡ c.failed
+submit_live S c k [] = refl
+submit_live S c k (i ∷ rest) = unless_live S c k i rest (is_readonly c.state)
+
+-- COUNTS
+
+pub counts_same : (before : ℕ → ℕ) (failed : Option ℕ) → failed ≡ None → Counts before before failed
+counts_same before failed live = record { later = λ d. omega arith; cause = λ d at. absurd (cc (live, at)) }
+
+-- THE BANK
+
+rose_from : (n m k : ℕ) → n ≤ m → Rose m k → Rose n k
+rose_from n m k more rose = omega (arith, more, rose)
+
+pub bank_on : {B : Type 0} (serials : B → List Serial) (sizes : B → List ℕ) (faults : B → ℕ → ℕ) (a b c : Seen B) → KeepsBank serials sizes faults a b → KeepsBank serials sizes faults b c → KeepsBank serials sizes faults a c
+bank_on {B} serials sizes faults a b c one two = record {
+  serials_kept = two.serials_kept ∙ one.serials_kept;
+  sizes_kept = two.sizes_kept ∙ one.sizes_kept;
+  later = λ d. let first = one.later d in let second = two.later d in omega (arith, first, second);
+  cause = λ live d at. by live d at b.control.failed refl;
+  ended = λ d at. let same = one.ended d at in two.ended d (ap (λ (x : Seen B). x.control.failed) same ∙ at) ∙ same;
+}
+  where
+    by : a.control.failed ≡ None → (d : ℕ) → c.control.failed ≡ Some d → (failed : Option ℕ) → b.control.failed ≡ failed → Rose (faults a.bank d) (faults c.bank d)
+    by live d at None is = rose_from (faults a.bank d) (faults b.bank d) (faults c.bank d) (one.later d) (two.cause is d at)
+    by live d at (Some e) is =
+        let same = two.ended e is in
+        subst (λ (x : Seen B). Rose (faults a.bank d) (faults x.bank d)) (sym same) (one.cause live d (sym (ap (λ (x : Seen B). x.control.failed) same) ∙ at))
