@@ -10,7 +10,7 @@ ghost use Rattle.control_state.specs.declared.plan.Plan.{Plan as PlanSeen};
 ghost use Rattle.control_state.specs.Seen.{numbers, step_of};
 ghost use Rattle.control_state.specs.Controls.{control_of, out_of, failed_of};
 ghost use Rattle.stage.specs.Runs.{run_setting, FitsBank, MakesTrue};
-ghost use Rattle.stage.specs.Causes.{Counts};
+ghost use Rattle.stage.specs.Causes.{Counts, Grows};
 
 use crate::calls::{read_row, write_row};
 use control_state::{Control, Events, JobStep, Need, Plan, Work};
@@ -52,6 +52,7 @@ fn meet<B: Bank>(
     ensures opening { Keeps (B.opening bank.old) (B.opening bank.new) }
     ensures sizes { B.sizes bank.new ≡ B.sizes bank.old }
     ensures serials { B.serials bank.new ≡ B.serials bank.old }
+    ensures grows { Grows (B.log bank.old) calls.old (B.log bank.new) calls.new }
     ensures cause { Counts (B.faults_of bank.old) (B.faults_of bank.new) (failed_of control.new.failed) }
 {
     match control.need(plan, k, work) {
@@ -98,6 +99,7 @@ pub fn client_part<B: Bank>(
     ensures opening { Keeps (B.opening bank.old) (B.opening bank.new) }
     ensures sizes { B.sizes bank.new ≡ B.sizes bank.old }
     ensures serials { B.serials bank.new ≡ B.serials bank.old }
+    ensures grows { Grows (B.log bank.old) calls.old (B.log bank.new) calls.new }
     ensures cause { Counts (B.faults_of bank.old) (B.faults_of bank.new) (failed_of control.new.failed) }
 {
     match control.work(k) {

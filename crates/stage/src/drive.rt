@@ -18,7 +18,7 @@ impl<B: Bank> Stage<B> {
     fn turn(&mut self, turn: Turn) -> Turned
         ensures follows { Follows self.old self.new }
         ensures opening { Keeps (B.opening self.old.bank) (B.opening self.new.bank) }
-        ensures bank { KeepsBank B.serials B.sizes B.faults_of self.old self.new }
+        ensures bank { KeepsBank B.serials B.sizes B.log B.faults_of self.old self.new }
         ensures ends { TurnEnds self.new result }
     {
         match turn {
@@ -33,7 +33,7 @@ impl<B: Bank> Stage<B> {
     pub fn drive(&mut self, turns: &[Turn]) -> DriveEnd
         ensures follows { Follows self.old self.new }
         ensures opening { Keeps (B.opening self.old.bank) (B.opening self.new.bank) }
-        ensures bank { KeepsBank B.serials B.sizes B.faults_of self.old self.new }
+        ensures bank { KeepsBank B.serials B.sizes B.log B.faults_of self.old self.new }
         ensures ends { EndsBy self.new result }
     {
         for turn in turns {
@@ -51,7 +51,7 @@ impl<B: Bank> Stage<B> {
         requires { self.old.control.failed ≡ None }
         ensures follows { Follows self.old self.new }
         ensures opening { Keeps (B.opening self.old.bank) (B.opening self.new.bank) }
-        ensures bank { KeepsBank B.serials B.sizes B.faults_of self.old self.new }
+        ensures bank { KeepsBank B.serials B.sizes B.log B.faults_of self.old self.new }
         ensures cycled { ClientsCycled self.old self.new result }
     {
         let mut went = false;
@@ -70,7 +70,7 @@ impl<B: Bank> Stage<B> {
     fn cycle(&mut self) -> Cycle
         ensures follows { Follows self.old self.new }
         ensures opening { Keeps (B.opening self.old.bank) (B.opening self.new.bank) }
-        ensures bank { KeepsBank B.serials B.sizes B.faults_of self.old self.new }
+        ensures bank { KeepsBank B.serials B.sizes B.log B.faults_of self.old self.new }
         ensures cycled { Cycled self.old self.new result }
     {
         match self.monitor_turn() {
@@ -86,7 +86,7 @@ impl<B: Bank> Stage<B> {
     pub fn drain(&mut self) -> DriveEnd
         ensures follows { Follows self.old self.new }
         ensures opening { Keeps (B.opening self.old.bank) (B.opening self.new.bank) }
-        ensures bank { KeepsBank B.serials B.sizes B.faults_of self.old self.new }
+        ensures bank { KeepsBank B.serials B.sizes B.log B.faults_of self.old self.new }
         ensures ends { EndsBy self.new result }
         ensures over { result ≡ Over → AllStill self.new }
     {

@@ -7,7 +7,7 @@ ghost use Rattle.stage_machine.specs.Rounds.{Ended};
 ghost use Rattle.stage_machine.specs.Machine.{Monitors};
 ghost use Rattle.control_state.specs.Controls.{control_of, out_of, failed_of};
 ghost use Rattle.stage.specs.Runs.{run_setting, FitsBank, Makes};
-ghost use Rattle.stage.specs.Causes.{Counts};
+ghost use Rattle.stage.specs.Causes.{Counts, Grows};
 
 use crate::calls::round_call;
 use control_state::{Control, Events, Plan};
@@ -28,6 +28,7 @@ pub fn monitor_part<B: Bank>(
     ensures opening { Keeps (B.opening bank.old) (B.opening bank.new) }
     ensures sizes { B.sizes bank.new ≡ B.sizes bank.old }
     ensures serials { B.serials bank.new ≡ B.serials bank.old }
+    ensures grows { Grows (B.log bank.old) calls.old (B.log bank.new) calls.new }
     ensures cause { Counts (B.faults_of bank.old) (B.faults_of bank.new) (failed_of control.new.failed) }
 {
     match control.round.ask(plan) {

@@ -135,7 +135,7 @@ impl<B: Bank> Stage<B> {
     pub fn monitor_turn(&mut self) -> Turned
         ensures answered { (x : Ended) × Answered self.old self.new (Monitors x) result }
         ensures opening { Keeps (B.opening self.old.bank) (B.opening self.new.bank) }
-        ensures bank { KeepsBank B.serials B.sizes B.faults_of self.old self.new }
+        ensures bank { KeepsBank B.serials B.sizes B.log B.faults_of self.old self.new }
     {
         if let Some(disk) = self.control.failed {
             return Turned::Member(disk);
@@ -160,7 +160,7 @@ impl<B: Bank> Stage<B> {
     pub fn client_turn(&mut self, k: u8) -> Turned
         ensures answered { (x : Ended) × (got : SectorBytes) × Answered self.old self.new (Asks k x got) result }
         ensures opening { Keeps (B.opening self.old.bank) (B.opening self.new.bank) }
-        ensures bank { KeepsBank B.serials B.sizes B.faults_of self.old self.new }
+        ensures bank { KeepsBank B.serials B.sizes B.log B.faults_of self.old self.new }
     {
         if let Some(disk) = self.control.failed {
             return Turned::Member(disk);
@@ -186,7 +186,7 @@ impl<B: Bank> Stage<B> {
     pub fn quiet(&mut self) -> Turned
         ensures answered { Answered self.old self.new Quiets result }
         ensures opening { Keeps (B.opening self.old.bank) (B.opening self.new.bank) }
-        ensures bank { KeepsBank B.serials B.sizes B.faults_of self.old self.new }
+        ensures bank { KeepsBank B.serials B.sizes B.log B.faults_of self.old self.new }
     {
         if let Some(disk) = self.control.failed {
             return Turned::Member(disk);

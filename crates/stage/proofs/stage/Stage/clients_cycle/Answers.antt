@@ -15,7 +15,7 @@ loop-k-preserved g c =
     let t = c.client_turn.ensures.answered in
     let inv = c.loop-k.invariant in
     let follows = follows_on a b n inv.follows (answered_follows b n (Asks c.loop-k.k t.0 t.1) c.client_turn.result t.2) in
-    let bank = bank_on g.B.Bank.serials g.B.Bank.sizes g.B.Bank.faults_of a b n inv.bank c.client_turn.ensures.bank in
+    let bank = bank_on g.B.Bank.serials g.B.Bank.sizes g.B.Bank.log g.B.Bank.faults_of a b n inv.bank c.client_turn.ensures.bank in
     elim c.match-client_turn.branch [
       | in-Moved w ↦
           let moved = subst (λ (r : Turned). Answered b n (Asks c.loop-k.k t.0 t.1) r) w.in-Moved.is t.2 in

@@ -7,5 +7,5 @@ abbrev pub invariant-loop-turn : goal.invariant-loop-turn
 invariant-loop-turn g l = record {
   follows : Follows l.fn.self l.self;
   opening : Keeps (g.B.Bank.opening l.fn.self.bank) (g.B.Bank.opening l.self.bank);
-  bank : KeepsBank g.B.Bank.serials g.B.Bank.sizes g.B.Bank.faults_of l.fn.self l.self;
+  bank : KeepsBank g.B.Bank.serials g.B.Bank.sizes g.B.Bank.log g.B.Bank.faults_of l.fn.self l.self;
 }

@@ -6,12 +6,15 @@ use Rattle.control_state.specs.Still.{is_still}
 use Rattle.control_state.specs.Controls.{control_of, out_of, failed_of}
 use Rattle.stage.specs.declared.turned.Turned.TheVariants.{Idle, JournalFull, Member}
 use Rattle.stage.specs.Runs.{run_setting}
-use Rattle.stage.specs.Stages.{Seen, IsStage, Answered, setting_of, is_full}
+use Rattle.stage.specs.Stages.{Seen, IsStage, Answered, setting_of, given_of, is_full}
 use Rattle.stage.proofs.Going.{silent_true}
 use Rattle.stage.proofs.Monitors.{makes_none, called_live}
 use Rattle.stage.proofs.Same.{quiet_same}
 use Rattle.stage.proofs.Staged.{entered_within, stage_goes, turns_made, not_full}
 use Rattle.stage.proofs.Stilled.{still_same, answers_made}
+use Rattle.control_state.specs.Seen.{plan_setting}
+use Rattle.stage.specs.Causes.{KeepsBank}
+use Rattle.stage.proofs.Kept.{failed_in, quiet_live, bank_still}
 use Rattle.stage.proofs.stage.Stage.quiet.Goals as goal
 
 pub invariant_of-self : goal.invariant_of-self
@@ -68,3 +71,17 @@ returns-clause-answered g c =
     let cause = subst (λ (v : Seen g.row.B.Denot). (v.control.failed ≡ None) × (is_still (setting_of v.given) v.control (Quiets) ≡ false) × (is_full v ≡ false)) c.self.view_is
     (ap failed_of c.in_default.is, sym (still_same p newest sizes C (Quiets)) ∙ sym (c.quiet_is_still.ensures) ∙ c.if-quiet_is_still.false, sym c.is_full.ensures ∙ c.if-is_full.false) in
     answers_made c.args.self.now _ (Quiets) c.quiet-events.new.self.failed c.answer.result c.answer.ensures refl (turns_made _ _ _ Quiets out told told c.self.view_is makes refl (ap (λ (j : JournalState). j.room) c.enter.ensures) refl (ap (λ (j : JournalState). j.entries) c.enter.ensures), cause.0, cause.1, cause.2)
+
+-- no call was made
+pub returns-clause-bank : goal.returns-clause-bank
+returns-clause-bank g c =
+    let p = c.self.inside.plan in
+    let C = control_of p c.self.inside.control in
+    let sizes = g.B.Bank.sizes c.self.inside.bank in
+    let given = given_of p (laid_at c.self.inside.newest) sizes in
+    let old : Seen g.row.B.Denot = record { bank = c.self.inside.bank; given = given; control = C; calls = c.self.inside.calls; journal = c.self.inside.journal.entries; room = c.self.inside.journal.room } in
+    let new : Seen g.row.B.Denot = record { bank = c.self.inside.bank; given = given; control = control_of p c.quiet-events.new.self; calls = c.self.inside.calls; journal = c.enter.new.journal.entries; room = c.enter.new.journal.room } in
+    let live = ap failed_of c.in_default.is in
+    let kept = ap failed_in c.quiet-events.ensures ∙ quiet_live (plan_setting p) C C.state ∙ live in
+    subst (λ (v : Seen g.row.B.Denot). KeepsBank g.B.Bank.serials g.B.Bank.sizes g.B.Bank.log g.B.Bank.faults_of v new) c.self.view_is
+    (bank_still g.B.Bank.serials g.B.Bank.sizes g.B.Bank.log g.B.Bank.faults_of old new refl refl live kept)
