@@ -1,5 +1,5 @@
 -- One more anchor that was read.
-use Rattle.std.proofs.Common.{◌≡◌, ◌<◌, ◌+◌, ◌&&◌, ◌||◌, ℕ, zero, suc, List, [], ◌∷◌, ◌++◌, Bool, true, false, cond, length, map, Option, Some, None, refl, sym, ◌∙◌, ap, subst, arith}
+use Rattle.std.proofs.Common.{◌≡◌, ◌<◌, ◌+◌, ◌&&◌, ◌||◌, ℕ, zero, suc, List, [], ◌∷◌, ◌++◌, Bool, true, false, cond, length, map, take, Option, Some, None, refl, sym, ◌∙◌, ap, subst, arith}
 use Rattle.std.specs.Prelude.{IfSome, slice_get, slice_index, slice_index_or, is_some, nat_lt, ◌==◌}
 use Rattle.std.specs.List.{list_all, range_with_len}
 use Rattle.std.specs.Option.{IsSomeAnd}
@@ -7,7 +7,9 @@ use Rattle.std.proofs.lemmas.Bool.{false≢true, ltb-true, ne_eqb}
 use Rattle.std.proofs.lemmas.Bool.Decides.{nat_tests}
 use Rattle.std.proofs.lemmas.List.Folds.{list_any-append, list_all-append}
 use Rattle.std.proofs.lemmas.List.FromFn.{map-range_with_len_more}
-use Rattle.std.proofs.lemmas.Option.{get_or_from_slice_get}
+use Rattle.std.proofs.lemmas.Option.{get_or_from_slice_get, slice_get-get_or, slice_get_within}
+use Rattle.std.proofs.lemmas.List.{map-append}
+use Rattle.std.proofs.lemmas.Grind.{take_at_read}
 use Rattle.imsm_base.specs.declared.bounds.TheConstants.{METADATA_SECTORS}
 use Rattle.imsm_base.specs.declared.units.Sector.{Sector}
 use Rattle.imsm_base.specs.declared.units.Serial.{Serial}
@@ -223,3 +225,17 @@ pub told_of : (serials : List Serial) (sizes : List ℕ) (opening : Option (List
 told_of serials sizes None log k images read all = tt
 told_of serials sizes (Some o) None k images read all = tt
 told_of serials sizes (Some o) (Some l) k images read all = read.told o l refl refl ∙ ap (λ n. map (image_told serials sizes o l) (range_with_len 0 n)) all
+
+-- WHAT IS KNOWN OF EACH DISK
+
+take_next : {X : Type 0} (xs : List X) (d : ℕ) (x : X) → slice_get xs d ≡ Some x → take (d + 1) xs ≡ take d xs ++ x ∷ []
+take_next xs d x there =
+    (take_at_read xs d x (slice_get_within xs d x there)).1 ∙ ap (λ y. take d xs ++ y ∷ []) (get_or_from_slice_get xs d x x there)
+
+-- one more image, of the next disk
+pub mapped_next : {X : Type 0} (f : ImageRead → X) (xs : List X) (d : ℕ) (images : List ImageRead) (image : ImageRead) → map f images ≡ take d xs → slice_get xs d ≡ Some (f image)
+    → map f (images ++ image ∷ []) ≡ take (d + 1) xs
+mapped_next f xs d images image so_far there = map-append f images (image ∷ []) ∙ ap (λ ys. ys ++ f image ∷ []) so_far ∙ sym (take_next xs d (f image) there)
+
+pub size_there : (sizes : List ℕ) (d n : ℕ) → d < length sizes → n ≡ slice_index sizes d → slice_get sizes d ≡ Some n
+size_there sizes d n within is = slice_get-get_or sizes d 0 within ∙ ap (λ m. Some m) (sym is)

@@ -42,6 +42,12 @@ image_told serials sizes opening log d = record {
 abbrev pub images_told : List Serial → List ℕ → List (List Sector) → List Call → List ImageRead
 images_told serials sizes opening log = map (image_told serials sizes opening log) (range_with_len 0 (length sizes))
 
+abbrev pub serials_of_all : List ImageRead → List Serial
+serials_of_all images = map (λ (i : ImageRead). i.serial) images
+
+abbrev pub sizes_of_all : List ImageRead → List ℕ
+sizes_of_all images = map (λ (i : ImageRead). i.sectors) images
+
 -- each call of a log is on a disk below this number
 abbrev pub is_below : ℕ → Call → Bool
 is_below d call = nat_lt call.disk d

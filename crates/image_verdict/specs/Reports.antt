@@ -11,6 +11,7 @@ use Rattle.imsm_base.specs.Whole.{IsWholeDisk}
 use Rattle.imsm_base.specs.FirstForm.{IsFirstForm}
 use Rattle.imsm_base.specs.Parts.{block_in}
 use Rattle.imsm_codec.specs.Given.{given_block}
+use Rattle.image_verdict.specs.Images.{serials_of_all}
 use Rattle.image_verdict.specs.declared.images.ImageRead.{ImageRead}
 use Rattle.image_verdict.specs.declared.report.Report.{Report}
 use Rattle.image_verdict.specs.declared.report.Report.TheVariants.{Unbuilt, Waiting, Started}
@@ -63,9 +64,6 @@ pub record IsHeld (block : List ℕ) (images : List ImageRead) (family generatio
 
 abbrev pub bytes_of_all : List Serial → List (List ℕ)
 bytes_of_all serials = map (λ (s : Serial). s.0) serials
-
-abbrev pub serials_of_all : List ImageRead → List Serial
-serials_of_all images = map (λ (i : ImageRead). i.serial) images
 
 -- the report on images that are to hold a block: the first that doesn't; or the disks of its table that are absent; or
 -- that none is absent, and which are there

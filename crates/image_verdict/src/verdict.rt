@@ -7,7 +7,8 @@ ghost use Rattle.imsm_base.specs.Whole.{IsWhole, IsWholeBlock};
 ghost use Rattle.imsm_base.specs.FirstForm.{IsFirstForm};
 ghost use Rattle.imsm_base.specs.Parts.{block_in};
 ghost use Rattle.imsm_codec.specs.Mpb.{block_of, block_bytes};
-ghost use Rattle.image_verdict.specs.Reports.{Holds, IsFirstAnchor, anchor_block, IsFirstOther, IsReport, IsReportOf, absent, bytes_of_all, is_there, serials_of_all};
+ghost use Rattle.image_verdict.specs.Reports.{Holds, IsFirstAnchor, anchor_block, IsFirstOther, IsReport, IsReportOf, absent, bytes_of_all, is_there};
+ghost use Rattle.image_verdict.specs.Images.{serials_of_all};
 
 use crate::images::ImageRead;
 use crate::report::Report;

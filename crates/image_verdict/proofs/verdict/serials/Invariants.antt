@@ -1,5 +1,5 @@
 use Rattle.std.proofs.Common.{◌≡◌, length, take}
-use Rattle.image_verdict.specs.Reports.{serials_of_all}
+use Rattle.image_verdict.specs.Images.{serials_of_all}
 use Rattle.image_verdict.proofs.verdict.serials.Given as goal
 
 abbrev pub invariant-loop-image : goal.invariant-loop-image
