@@ -7,29 +7,15 @@ ghost use Rattle.image_outside.specs.Endings.{EndsWithoutMemory, images_limit_li
 ghost use Rattle.image_words.specs.Words.{AreImages, ImageWord, IsAssemble, IsCommand, IsPastLimit, IsWithinLimit, serials_named, texts};
 ghost use Rattle.image_words.specs.Args.{words_of};
 ghost use Rattle.image_verdict.specs.Images.{images_told};
-ghost use Rattle.image_verdict.specs.Text.{report_status, report_text};
 ghost use Rattle.image_verdict.specs.Endings.{IsReported, Reports, Tells};
 
 use crate::opening::{OpenFault, open_all};
 use image_outside::{Shelf, Sink, Source, Status, end, end_unopened, end_without_memory};
-use image_verdict::{Report, read_images, report_on, text_of};
+use image_verdict::{print_report, read_images, report_on};
 use image_words::{ImageArg, WordsFault, parse};
 use imsm_base::MAX_DISKS;
 use member_bank::Bank;
 use std::alloc::Global;
-
-/// Prints a report.
-fn print<K: Sink>(alloc: Global, report: &Report, sink: &mut K) -> Status
-    ensures status { (result.0 ≡ report_status report.now) ⊎ (result.0 ≡ 6) ⊎ (result.0 ≡ 9) }
-    ensures lines { IsReported result.0 → Adds (K.written sink.old) (K.written sink.new) (report_text report.now) }
-    ensures write_fault { result.0 ≡ 6 → Rose (K.faults_of sink.old) (K.faults_of sink.new) }
-    ensures memory { result.0 ≡ 9 → EndsWithoutMemory (K.written sink.old) (K.written sink.new) (K.faults_of sink.old) (K.faults_of sink.new) }
-{
-    match text_of(alloc, report) {
-        Ok(text) => end(sink, text.as_slice(), report.status()),
-        Err(_) => end_without_memory(sink),
-    }
-}
 
 /// Prints what is said of the disks of a bank, of which there are 1 to 16.
 fn assemble<B: Bank, K: Sink>(alloc: Global, bank: &mut B, sink: &mut K) -> Status
@@ -44,7 +30,7 @@ fn assemble<B: Bank, K: Sink>(alloc: Global, bank: &mut B, sink: &mut K) -> Stat
     ensures serials { B.serials bank.new ≡ B.serials bank.old }
 {
     match read_images(alloc, bank) {
-        Ok(images) => print(alloc, &report_on(images.as_slice()), sink),
+        Ok(images) => print_report(alloc, &report_on(images.as_slice()), sink),
         Err(_) => end_without_memory(sink),
     }
 }

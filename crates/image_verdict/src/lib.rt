@@ -2,11 +2,13 @@
 #![tactic(auto)]
 
 mod images;
+mod print;
 mod report;
 mod text;
 mod verdict;
 
 pub use images::{ImageRead, read_images};
 pub use report::Report;
-pub use text::text_of;
+pub use print::print_report;
+pub use text::{digit, is_plain, name_bytes, text_of};
 pub use verdict::report_on;

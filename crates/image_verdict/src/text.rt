@@ -8,7 +8,8 @@ use crate::report::Report;
 use imsm_base::Serial;
 use std::alloc::{AllocError, Global};
 
-fn digit(value: u8) -> u8
+/// A number below 16 as a hexadecimal digit, in lower case.
+pub fn digit(value: u8) -> u8
     requires { value < 16 }
     ensures { result ≡ hex_digit value }
 {
@@ -50,7 +51,8 @@ fn push_number(alloc: Global, out: &mut Vec<u8>, value: u32) -> Result<(), Alloc
     out.extend_from_slice(text.as_bytes())
 }
 
-fn is_plain(byte: u8) -> bool
+/// Whether a byte is printed as it is.
+pub fn is_plain(byte: u8) -> bool
     ensures { result ≡ is_printed byte }
 {
     byte >= 0x21 && byte <= 0x7e && byte != b'\\'
@@ -78,6 +80,13 @@ fn trimmed(bytes: &[u8]) -> &[u8]
     &bytes[..end]
 }
 
+/// The bytes of a serial that are printed: those before the zeros at its end.
+pub fn name_bytes(serial: &Serial) -> &[u8]
+    ensures { result.now ≡ without_zeros serial.now.0 }
+{
+    trimmed(&serial.0)
+}
+
 fn push_all_escaped(out: &mut Vec<u8>, bytes: &[u8]) -> Result<(), AllocError>
     ensures { OnOk result (out.new.items ≡ out.old.items ++ flat_map escaped bytes.now) }
 {
@@ -90,7 +99,7 @@ fn push_all_escaped(out: &mut Vec<u8>, bytes: &[u8]) -> Result<(), AllocError>
 fn push_serial(out: &mut Vec<u8>, serial: &Serial) -> Result<(), AllocError>
     ensures { OnOk result (out.new.items ≡ out.old.items ++ serial_text serial.now) }
 {
-    let bytes = trimmed(&serial.0);
+    let bytes = name_bytes(serial);
     if bytes.is_empty() {
         push_escaped(out, 0)
     } else {
