@@ -1,10 +1,1 @@
-pub mod Written
-pub mod Taken
-pub mod Names
-pub mod Grammar
-pub mod Trimmed
-pub mod Pieces
-pub mod Reading
-pub mod Tables
-pub mod Held
 pub mod Opened

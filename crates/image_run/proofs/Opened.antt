@@ -14,11 +14,11 @@ use Rattle.imsm_base.specs.declared.units.Serial.{Serial}
 use Rattle.imsm_base.specs.declared.units.Sector.{Sector}
 use Rattle.device_log.specs.Log.{Call}
 use Rattle.member_bank.specs.Told.{Keeps}
-use Rattle.image_run.specs.Outside.{IsNew, HasOneMore, HoldsFresh}
-use Rattle.image_run.specs.declared.words.ImageArg.{ImageArg}
-use Rattle.image_run.specs.Words.{ImageWord, IsImageWord, is_name, is_name_byte, is_apart_from, are_distinct, serial_named, serials_named}
-use Rattle.image_run.specs.Args.{word_of, words_of}
-use Rattle.image_run.proofs.Names.{bytes_of_name}
+use Rattle.image_outside.specs.Outside.{IsNew, HasOneMore, HoldsFresh}
+use Rattle.image_words.specs.declared.words.ImageArg.{ImageArg}
+use Rattle.image_words.specs.Words.{ImageWord, IsImageWord, is_name, is_name_byte, is_apart_from, are_distinct, serial_named, serials_named}
+use Rattle.image_words.specs.Args.{word_of, words_of}
+use Rattle.image_words.proofs.Names.{bytes_of_name}
 
 and_left : (a b : Bool) → (a && b) ≡ true → a ≡ true
 and_left true b both = refl

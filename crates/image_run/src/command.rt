@@ -2,37 +2,21 @@
 ghost use Rattle.std.specs.Prelude.{◌≡◌, ◌≢◌, ◌≤◌, ◌⊎◌, List, [], length, map, IfSome};
 ghost use Rattle.std.specs.Option.{IsSomeAnd};
 ghost use Rattle.member_bank.specs.Faults.{Rose};
-ghost use Rattle.image_run.specs.Outside.{Adds, IsUnused};
-ghost use Rattle.image_run.specs.Words.{AreImages, ImageWord, IsAssemble, IsCommand, IsPastLimit, IsWithinLimit, texts};
-ghost use Rattle.image_run.specs.Args.{words_of};
-ghost use Rattle.image_run.specs.Images.{images_told};
-ghost use Rattle.image_run.specs.Text.{images_limit_line, report_status, report_text};
-ghost use Rattle.image_run.specs.Endings.{EndsWithoutMemory, HasOnlyReads, IsReported, Reports, Tells, words_line};
+ghost use Rattle.image_outside.specs.Outside.{Adds, HasOnlyReads, IsUnused};
+ghost use Rattle.image_outside.specs.Endings.{EndsWithoutMemory, images_limit_line, words_line};
+ghost use Rattle.image_words.specs.Words.{AreImages, ImageWord, IsAssemble, IsCommand, IsPastLimit, IsWithinLimit, serials_named, texts};
+ghost use Rattle.image_words.specs.Args.{words_of};
+ghost use Rattle.image_verdict.specs.Images.{images_told};
+ghost use Rattle.image_verdict.specs.Text.{report_status, report_text};
+ghost use Rattle.image_verdict.specs.Endings.{IsReported, Reports, Tells};
 
-use crate::images::read_images;
 use crate::opening::{OpenFault, open_all};
-use crate::outside::{Shelf, Sink, Source};
-use crate::report::Report;
-use crate::status::{Status, end, end_unopened, end_without_memory};
-use crate::text::text_of;
-use crate::verdict::report_on;
-use crate::words::{ImageArg, WordsFault, parse};
+use image_outside::{Shelf, Sink, Source, Status, end, end_unopened, end_without_memory};
+use image_verdict::{Report, read_images, report_on, text_of};
+use image_words::{ImageArg, WordsFault, parse};
 use imsm_base::MAX_DISKS;
 use member_bank::Bank;
 use std::alloc::Global;
-
-impl Report {
-    /// The status with which the report is printed.
-    fn status(&self) -> Status
-        ensures { result.0 ≡ report_status self.now }
-    {
-        match self {
-            Report::Unbuilt(_) => Status::UNBUILT,
-            Report::Waiting { .. } => Status::WAITING,
-            Report::Started { .. } => Status::STARTED,
-        }
-    }
-}
 
 /// Prints a report.
 fn print<K: Sink>(alloc: Global, report: &Report, sink: &mut K) -> Status
@@ -81,7 +65,7 @@ fn run<H: Shelf, K: Sink>(
     ensures open_fault { result.0 ≡ 7 → Rose (H.faults_of shelf.old) (H.faults_of shelf.new) }
     ensures memory { result.0 ≡ 9 → EndsWithoutMemory (K.written sink.old) (K.written sink.new) (K.faults_of sink.old) (K.faults_of sink.new) }
     ensures told { IsReported result.0 → IsSomeAnd (H.held shelf.new)
-        (Tells H.Held.serials H.Held.sizes H.Held.opening H.Held.log (words_of images.now) (K.written sink.old) (K.written sink.new) result.0) }
+        (Tells H.Held.serials H.Held.sizes H.Held.opening H.Held.log (serials_named (words_of images.now)) (K.written sink.old) (K.written sink.new) result.0) }
 {
     match open_all(alloc, images, shelf) {
         Ok(()) => {}
@@ -134,7 +118,7 @@ pub fn image_still<H: Shelf, S: Source, K: Sink>(
     ensures limit_line { result.0 ≡ 10 → Adds (K.written sink.old) (K.written sink.new) images_limit_line }
     ensures memory { result.0 ≡ 9 → EndsWithoutMemory (K.written sink.old) (K.written sink.new) (K.faults_of sink.old) (K.faults_of sink.new) }
     ensures told { IsReported result.0 → (images : List ImageWord) × IsAssemble (texts words.now) images × IsSomeAnd (H.held shelf.new)
-        (Tells H.Held.serials H.Held.sizes H.Held.opening H.Held.log images (K.written sink.old) (K.written sink.new) result.0) }
+        (Tells H.Held.serials H.Held.sizes H.Held.opening H.Held.log (serials_named images) (K.written sink.old) (K.written sink.new) result.0) }
 {
     match parse(alloc, words) {
         Ok(images) => run(alloc, images.as_slice(), shelf, sink),
@@ -179,7 +163,7 @@ pub fn image_main<H: Shelf, S: Source, K: Sink>(
     ensures limit_line { result.0 ≡ 10 → Adds (K.written sink.old) (K.written sink.new) images_limit_line }
     ensures memory { result.0 ≡ 9 → EndsWithoutMemory (K.written sink.old) (K.written sink.new) (K.faults_of sink.old) (K.faults_of sink.new) }
     ensures told { IsReported result.0 → (images : List ImageWord) × IsAssemble (texts words.now) images × IsSomeAnd (H.held shelf.new)
-        (Tells H.Held.serials H.Held.sizes H.Held.opening H.Held.log images (K.written sink.old) (K.written sink.new) result.0) }
+        (Tells H.Held.serials H.Held.sizes H.Held.opening H.Held.log (serials_named images) (K.written sink.old) (K.written sink.new) result.0) }
 {
     image_still(alloc, words, shelf, source, sink)
 }

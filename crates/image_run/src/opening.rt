@@ -3,12 +3,12 @@ ghost use Rattle.std.specs.Prelude.{◌≡◌, ℕ, ◌<◌, ◌≤◌, [], true
 ghost use Rattle.std.specs.List.{AllByRecursion};
 ghost use Rattle.std.specs.Option.{IsSomeAnd};
 ghost use Rattle.member_bank.specs.Faults.{Rose};
-ghost use Rattle.image_run.specs.Outside.{IsUnused, HoldsFresh};
-ghost use Rattle.image_run.specs.Words.{IsImageWord, are_distinct, serials_named};
-ghost use Rattle.image_run.specs.Args.{words_of};
+ghost use Rattle.image_outside.specs.Outside.{IsUnused, HoldsFresh};
+ghost use Rattle.image_words.specs.Words.{IsImageWord, are_distinct, serials_named};
+ghost use Rattle.image_words.specs.Args.{words_of};
 
-use crate::outside::{Shelf, ShelfFault};
-use crate::words::ImageArg;
+use image_outside::{Shelf, ShelfFault};
+use image_words::ImageArg;
 use imsm_base::MAX_DISKS;
 use std::alloc::Global;
 

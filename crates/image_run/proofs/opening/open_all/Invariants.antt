@@ -1,8 +1,8 @@
 use Rattle.std.proofs.Common.{◌≤◌, take}
 use Rattle.std.specs.Option.{IsSomeAnd}
-use Rattle.image_run.specs.Outside.{HoldsFresh}
-use Rattle.image_run.specs.Words.{serials_named}
-use Rattle.image_run.specs.Args.{words_of}
+use Rattle.image_outside.specs.Outside.{HoldsFresh}
+use Rattle.image_words.specs.Words.{serials_named}
+use Rattle.image_words.specs.Args.{words_of}
 use Rattle.image_run.proofs.opening.open_all.Given as goal
 
 abbrev pub invariant-loop-i : goal.invariant-loop-i

@@ -1,0 +1,76 @@
+//! The status of a command, and how it ends.
+ghost use Rattle.std.specs.Prelude.{◌≡◌, ◌≢◌, ◌⊎◌, OnOk, OnErr};
+ghost use Rattle.member_bank.specs.Faults.{Rose};
+ghost use Rattle.image_outside.specs.Outside.{Adds};
+ghost use Rattle.image_outside.specs.Endings.{EndsWithoutMemory, open_line};
+
+use crate::outside::{Sink, write_all};
+use member_bank::Failed;
+
+/// The status of a command.
+#[derive(Clone, Copy, Debug, PartialEq, Eq)]
+pub struct Status(pub u8);
+
+impl Status {
+    /// The volume starts.
+    pub const STARTED: Status = Status(0);
+    /// The words are not in the grammar.
+    pub const WORDS: Status = Status(1);
+    /// A disk of the container is absent.
+    pub const WAITING: Status = Status(2);
+    /// A line couldn't be written.
+    pub const WRITE_FAULT: Status = Status(6);
+    /// An image couldn't be opened.
+    pub const OPEN_FAULT: Status = Status(7);
+    /// There was no memory.
+    pub const MEMORY: Status = Status(9);
+    /// A limit is passed.
+    pub const LIMIT: Status = Status(10);
+    /// An image isn't of the form that is started today.
+    pub const UNBUILT: Status = Status(14);
+}
+
+/// Ends with a status and its lines, or with a write fault where they can't be written.
+pub fn end<K: Sink>(sink: &mut K, lines: &[u8], status: Status) -> Status
+    requires { status.0 ≢ 6 }
+    ensures either { (result.0 ≡ status.0) ⊎ (result.0 ≡ 6) }
+    ensures lines { result.0 ≡ status.0 → Adds (K.written sink.old) (K.written sink.new) lines.now }
+    ensures fault { result.0 ≡ 6 → Rose (K.faults_of sink.old) (K.faults_of sink.new) }
+{
+    match write_all(sink, lines) {
+        Ok(()) => status,
+        Err(Failed) => Status::WRITE_FAULT,
+    }
+}
+
+/// Writes that an image couldn't be opened. Takes no memory.
+fn write_unopened<K: Sink>(sink: &mut K, name: &str) -> Result<(), Failed>
+    ensures ok { OnOk result (Adds (K.written sink.old) (K.written sink.new) (open_line name.now)) }
+    ensures err { OnErr result (Rose (K.faults_of sink.old) (K.faults_of sink.new)) }
+{
+    write_all(sink, b"open ")?;
+    write_all(sink, name.as_bytes())?;
+    write_all(sink, b"\n")?;
+    Ok(())
+}
+
+/// Ends where an image couldn't be opened.
+pub fn end_unopened<K: Sink>(sink: &mut K, name: &str) -> Status
+    ensures either { (result.0 ≡ 7) ⊎ (result.0 ≡ 6) }
+    ensures line { result.0 ≡ 7 → Adds (K.written sink.old) (K.written sink.new) (open_line name.now) }
+    ensures fault { result.0 ≡ 6 → Rose (K.faults_of sink.old) (K.faults_of sink.new) }
+{
+    match write_unopened(sink, name) {
+        Ok(()) => Status::OPEN_FAULT,
+        Err(Failed) => Status::WRITE_FAULT,
+    }
+}
+
+/// Ends without memory, also where that can't be written.
+pub fn end_without_memory<K: Sink>(sink: &mut K) -> Status
+    ensures status { result.0 ≡ 9 }
+    ensures line { EndsWithoutMemory (K.written sink.old) (K.written sink.new) (K.faults_of sink.old) (K.faults_of sink.new) }
+{
+    let _ = write_all(sink, b"memory\n");
+    Status::MEMORY
+}

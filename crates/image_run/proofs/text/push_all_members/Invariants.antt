@@ -1,7 +1,0 @@
-use Rattle.std.proofs.Common.{◌≡◌, ◌++◌, take}
-use Rattle.std.specs.List.{flat_map}
-use Rattle.image_run.specs.Text.{member_line}
-use Rattle.image_run.proofs.text.push_all_members.Given as goal
-
-abbrev pub invariant-loop-serial : goal.invariant-loop-serial
-invariant-loop-serial l = l.out.items ≡ l.initial.out.items ++ flat_map member_line (take l.serial-index l.serials)

@@ -1,7 +1,0 @@
-use Rattle.std.proofs.Common.{take}
-use Rattle.std.specs.List.{AllByRecursion}
-use Rattle.image_run.specs.Reports.{Holds}
-use Rattle.image_run.proofs.verdict.first_other.Given as goal
-
-abbrev pub invariant-loop-image : goal.invariant-loop-image
-invariant-loop-image l = AllByRecursion (Holds l.block) (take l.image-index l.images)

@@ -1,0 +1,5 @@
+pub mod Trimmed
+pub mod Pieces
+pub mod Reading
+pub mod Tables
+pub mod Held

@@ -1,0 +1,4 @@
+pub mod Images
+pub mod Text
+pub mod Reports
+pub mod Endings

@@ -1,0 +1,93 @@
+-- Words name their images in one way.
+use Rattle.std.proofs.Common.{◌≡◌, ◌<◌, ◌≤◌, ◌+◌, ◌-◌, ◌&&◌, ℕ, suc, zero, List, [], ◌∷◌, ◌++◌, Bool, true, false, length, map, take, drop, get_or, refl, sym, ◌∙◌, ap, subst, arith, drop-drop, length-drop, String}
+use Rattle.std.specs.Prelude.{string_bytes}
+use Rattle.std.specs.declared.alloc.Global.{Global}
+use Rattle.std.specs.List.{AllByRecursion, list_all}
+use Rattle.std.proofs.lemmas.Bool.{false≢true}
+use Rattle.std.proofs.lemmas.List.{length-map, take_all}
+use Rattle.std.proofs.lemmas.List.Folds.{list_all-map}
+use Rattle.image_words.specs.declared.words.ImageArg.{ImageArg}
+use Rattle.image_words.specs.Words.{ImageWord, IsAssemble, IsImageWord, IsCommand, is_name_byte, is_apart_from, are_distinct, assemble_word, spelled, texts}
+use Rattle.image_words.specs.Args.{word_of, words_of}
+use Rattle.image_words.proofs.Names.{bytes_of_name, not_equals, same_word}
+
+and_left : (a b : Bool) → (a && b) ≡ true → a ≡ true
+and_left true b both = refl
+and_left false b both = both
+
+and_right : (a b : Bool) → (a && b) ≡ true → b ≡ true
+and_right true b both = both
+and_right false b both = absurd (false≢true both)
+
+-- one image is apart from those behind it as the words are
+pub distinct-cons : (image : ImageArg) (others : List ImageArg)
+    → are_distinct (words_of (image ∷ others)) ≡ (list_all (λ (o : ImageArg). is_apart_from (word_of image) (word_of o)) others && are_distinct (words_of others))
+distinct-cons image others = ap (λ (b : Bool). b && are_distinct (words_of others)) (list_all-map (is_apart_from (word_of image)) word_of others)
+
+-- the first `=` splits
+split_same : (xs ys us vs : List ℕ) → list_all is_name_byte xs ≡ true → list_all is_name_byte us ≡ true → xs ++ 0x3d ∷ ys ≡ us ++ 0x3d ∷ vs → (xs ≡ us) × (ys ≡ vs)
+split_same [] ys [] vs names others same = (refl, (cc))
+split_same [] ys (u ∷ us) vs names others same = absurd (not_equals u (and_left _ _ others) (cc))
+split_same (x ∷ xs) ys [] vs names others same = absurd (not_equals x (and_left _ _ names) (cc))
+split_same (x ∷ xs) ys (u ∷ us) vs names others same =
+    let rest = split_same xs ys us vs (and_right (is_name_byte x) _ names) (and_right (is_name_byte u) _ others) (cc) in
+    let first : x ≡ u = cc in
+    let named : xs ≡ us = rest.0 in
+    (cc, rest.1)
+
+spelled_same : (v w : ImageWord) → IsImageWord v → IsImageWord w → spelled v ≡ spelled w → v ≡ w
+spelled_same v w one other same =
+    let parts = split_same v.name v.file w.name w.file (bytes_of_name v.name one.named) (bytes_of_name w.name other.named) same in
+    same_word v.name v.file w parts.0 parts.1
+
+pub words_same : (vs ws : List ImageWord) → AllByRecursion IsImageWord vs → AllByRecursion IsImageWord ws → map spelled vs ≡ map spelled ws → vs ≡ ws
+words_same [] [] each others same = refl
+words_same [] (w ∷ ws) each others same = absurd (cc)
+words_same (v ∷ vs) [] each others same = absurd (cc)
+words_same (v ∷ vs) (w ∷ ws) each others same =
+    let first : v ≡ w = spelled_same v w each.0 others.0 (cc) in
+    let rest : vs ≡ ws = words_same vs ws each.1 others.1 (cc) in
+    cc
+
+-- each word of the list spells an image
+pub word_at : (ws : List ImageWord) (k : ℕ) (d : List ℕ) → AllByRecursion IsImageWord ws → k < length (map spelled ws) → (w : ImageWord) × IsImageWord w × (get_or (map spelled ws) k d ≡ spelled w)
+word_at [] k d each below = absurd (omega arith)
+word_at (w ∷ ws) zero d each below = (w, each.0, refl)
+word_at (w ∷ ws) (suc k) d each below = word_at ws k d each.1 (omega arith)
+
+pub first_apart : (all : List ImageArg) (image : ImageArg) (others : List ImageArg) (b : Bool) → all ≡ image ∷ others
+    → b ≡ list_all (λ (o : ImageArg). is_apart_from (word_of image) (word_of o)) others
+    → are_distinct (words_of all) ≡ (b && are_distinct (words_of (drop 1 all)))
+first_apart all image others b split is = rw (split, distinct-cons image others, ← is) refl
+
+-- the images from a place on are apart as those behind it, where the first of them is apart from these
+pub apart_from : (all : List ImageArg) (i : ℕ) (b : Bool)
+    → are_distinct (words_of (take (length all - i) (drop i all))) ≡ (b && are_distinct (words_of (drop 1 (take (length all - i) (drop i all)))))
+    → are_distinct (words_of (drop i all)) ≡ (b && are_distinct (words_of (drop (i + 1) all)))
+apart_from all i b is =
+    let fits : length (drop i all) ≤ length all - i = omega (arith, length-drop i all) in
+    let same : take (length all - i) (drop i all) ≡ drop i all = take_all (length all - i) (drop i all) fits in
+    let tested : are_distinct (words_of (drop i all)) ≡ (b && are_distinct (words_of (drop 1 (drop i all)))) =
+    subst (λ (l : List ImageArg). are_distinct (words_of l) ≡ (b && are_distinct (words_of (drop 1 l)))) same is in
+    tested ∙ ap (λ (l : List ImageArg). b && are_distinct (words_of l)) (drop-drop 1 i all)
+
+rest_same : (word : List ℕ) (xs ys : List (List ℕ)) → word ∷ xs ≡ word ∷ ys → xs ≡ ys
+rest_same word xs ys same = cc
+
+-- the words after the first spell the images
+pub rest_spelled : (words rest : List (List ℕ)) (ws : List ImageWord) → words ≡ assemble_word ∷ rest → IsAssemble words ws → rest ≡ map spelled ws
+rest_spelled words rest ws split is = rest_same assemble_word rest (map spelled ws) (sym split ∙ is.words_are)
+
+pub one_reading : (words : List (List ℕ)) (vs ws : List ImageWord) → IsAssemble words vs → IsAssemble words ws → vs ≡ ws
+one_reading words vs ws one other = words_same vs ws one.named.each other.named.each (sym (rest_spelled words (map spelled vs) vs one.words_are one) ∙ rest_spelled words (map spelled vs) ws one.words_are other)
+
+pub not_distinct : (words rest : List (List ℕ)) (vs : List ImageWord) → words ≡ assemble_word ∷ rest
+    → rest ≡ map spelled vs → AllByRecursion IsImageWord vs → false ≡ are_distinct vs → IsCommand words → ⊥
+not_distinct words rest vs split same each repeated command =
+    let ws = command.0 in
+    let rests : map spelled vs ≡ map spelled ws = sym same ∙ rest_spelled words rest ws split command.1 in
+    let equal : vs ≡ ws = words_same vs ws each command.1.named.each rests in
+    false≢true (repeated ∙ ap are_distinct equal ∙ command.1.named.distinct)
+
+pub same_count : (rest : List (String Global)) (vs : List ImageWord) → texts rest ≡ map spelled vs → length rest ≡ length vs
+same_count rest vs same = sym (length-map rest (λ (w : String Global). string_bytes w)) ∙ (ap (λ (l : List (List ℕ)). length l) same ∙ length-map vs spelled)

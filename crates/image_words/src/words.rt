@@ -1,0 +1,192 @@
+//! The words of a command: what is in the grammar, and the images that they name.
+ghost use Rattle.std.specs.Prelude.{◌≡◌, ◌≢◌, ◌↔◌, ◌&&◌, nat_le, ℕ, ◌<◌, ◌≤◌, List, ◌∷◌, length, map, drop, Err, IsTrue, IsSome, IfSome, IfNone, IfOk};
+ghost use Rattle.std.specs.List.{AllByRecursion, list_all};
+ghost use Rattle.std.specs.Option.{IsSomeAnd};
+ghost use Rattle.image_words.specs.Words.{ImageWord, IsImageWord, IsAssemble, IsCommand, IsWithinLimit, IsPastLimit, are_distinct, assemble_word, is_apart_from, is_name, is_name_byte, serial_named, spelled, texts};
+ghost use Rattle.image_words.specs.Args.{word_of, words_of};
+ghost use Rattle.image_words.specs.declared.words.WordsFault.TheVariants as faults;
+
+use imsm_base::{MAX_DISKS, SERIAL_BYTES, Serial};
+use std::alloc::{AllocFailed, Global};
+use thiserror::Error;
+
+/// A word NAME=FILE: the name of a disk, and the file that is its image.
+#[derive(Clone, Copy, Default)]
+pub struct ImageArg<'a> {
+    pub name: &'a str,
+    pub file: &'a str,
+}
+
+impl ImageArg<'_> {
+    /// The serial under which the image is opened: its name, padded with zero bytes.
+    pub fn serial(&self) -> Serial
+        requires { length self.now.name.now ≤ SERIAL_BYTES }
+        ensures { result ≡ serial_named (word_of self.now) }
+    {
+        let mut bytes = [0; SERIAL_BYTES];
+        bytes[..self.name.len()].copy_from_slice(self.name.as_bytes());
+        Serial(bytes)
+    }
+}
+
+fn is_byte_of_name(byte: u8) -> bool
+    ensures { result ≡ is_name_byte byte }
+{
+    byte >= 0x21 && byte <= 0x7e && byte != b'=' && byte != b'\\'
+}
+
+fn are_name_bytes(bytes: &[u8]) -> bool
+    ensures { result ≡ list_all is_name_byte bytes.now }
+{
+    bytes.iter().all(|byte| is_byte_of_name(*byte))
+}
+
+fn is_name_length(length: usize) -> bool
+    ensures { result ≡ (nat_le 1 length && nat_le length SERIAL_BYTES) }
+{
+    1 <= length && length <= SERIAL_BYTES
+}
+
+fn names_disk(name: &str) -> bool
+    ensures { result ≡ is_name name.now }
+{
+    is_name_length(name.len()) && are_name_bytes(name.as_bytes())
+}
+
+/// The parts of a word around its first `=`.
+fn parts(word: &str) -> Option<ImageArg<'_>>
+    ensures split { IfSome result (λ image. word.now ≡ spelled (word_of image)) }
+    ensures only { (w : ImageWord) → IsImageWord w → word.now ≡ spelled w → IsSomeAnd result (λ image. word_of image ≡ w) }
+{
+    let (name, file) = word.split_once('=')?;
+    Some(ImageArg { name, file })
+}
+
+fn names_image(image: &ImageArg<'_>) -> bool
+    ensures { IsTrue result ↔ IsImageWord (word_of image.now) }
+{
+    names_disk(image.name) && !image.file.is_empty()
+}
+
+/// The image that a word names, if it is of the form NAME=FILE.
+pub fn image_of(word: &str) -> Option<ImageArg<'_>>
+    ensures found { IfSome result (λ image. IsImageWord (word_of image) × (word.now ≡ spelled (word_of image))) }
+    ensures none { IfNone result ((w : ImageWord) → IsImageWord w → word.now ≡ spelled w → ⊥) }
+{
+    let image = parts(word)?;
+    if names_image(&image) {
+        Some(image)
+    } else {
+        None
+    }
+}
+
+/// Why words give no images to open.
+#[derive(Clone, Copy, Debug, PartialEq, Eq, Error)]
+pub enum WordsFault {
+    #[error("out of memory")]
+    Memory,
+    #[error("the words are not in the grammar")]
+    Words,
+    #[error("more images are named than a command opens")]
+    Images,
+}
+
+impl<T: Drop> From<AllocFailed<T>> for WordsFault {
+    ghost from_gives = { λ _ fault. fault ≡ faults.Memory };
+
+    fn from(_: AllocFailed<T>) -> WordsFault {
+        WordsFault::Memory
+    }
+}
+
+/// The images that words name, if each word names one.
+fn images_of(alloc: Global, words: &[String]) -> Result<Vec<ImageArg<'_>>, WordsFault>
+    ensures each { IfOk result (λ images. AllByRecursion IsImageWord (words_of images.items)) }
+    ensures found { IfOk result (λ images. texts words.now ≡ map spelled (words_of images.items)) }
+    ensures refused { result ≡ Err WordsFault.Words → (ws : List ImageWord) → AllByRecursion IsImageWord ws → texts words.now ≡ map spelled ws → ⊥ }
+    ensures many { result ≢ Err WordsFault.Images }
+{
+    let mut images = Vec::new(alloc);
+    for word in words {
+        let Some(image) = image_of(word.as_str()) else {
+            return Err(WordsFault::Words);
+        };
+        images.push(image)?;
+    }
+    Ok(images)
+}
+
+fn is_apart(image: &ImageArg<'_>, other: &ImageArg<'_>) -> bool
+    ensures { result ≡ is_apart_from (word_of image.now) (word_of other.now) }
+{
+    other.name != image.name && other.file != image.file
+}
+
+fn is_apart_from_all(image: &ImageArg<'_>, others: &[ImageArg<'_>]) -> bool
+    ensures { result ≡ list_all (λ other. is_apart_from (word_of image.now) (word_of other)) others.now }
+{
+    others.iter().all(|other| is_apart(image, other))
+}
+
+/// Whether the first image is apart from all behind it.
+fn is_first_apart(images: &[ImageArg<'_>]) -> bool
+    ensures { are_distinct (words_of images.now) ≡ (result && are_distinct (words_of (drop 1 images.now))) }
+{
+    match images.split_first() {
+        None => true,
+        Some((image, others)) => is_apart_from_all(image, others),
+    }
+}
+
+fn are_apart(images: &[ImageArg<'_>]) -> bool
+    ensures { result ≡ are_distinct (words_of images.now) }
+{
+    for i in 0..images.len() {
+        if !is_first_apart(&images[i..]) {
+            return false;
+        }
+    }
+    true
+}
+
+fn is_assemble(word: &str) -> bool
+    ensures { IsTrue result ↔ (word.now ≡ assemble_word) }
+{
+    word == "assemble"
+}
+
+/// The words that name images of the command `assemble NAME=FILE..`.
+fn image_words(words: &[String]) -> Option<&[String]>
+    ensures some { IfSome result (λ rest. (texts words.now ≡ assemble_word ∷ texts rest.now) × (1 ≤ length rest.now)) }
+    ensures none { IfNone result (IsCommand (texts words.now) → ⊥) }
+{
+    let (first, rest) = words.split_first()?;
+    if is_assemble(first.as_str()) && !rest.is_empty() {
+        Some(rest)
+    } else {
+        None
+    }
+}
+
+/// The images of the command `assemble NAME=FILE..`. The words come before the limit of images.
+pub fn parse(alloc: Global, words: &[String]) -> Result<Vec<ImageArg<'_>>, WordsFault>
+    ensures found { IfOk result (λ images. IsAssemble (texts words.now) (words_of images.items)) }
+    ensures few { IfOk result (λ images. length images.items ≤ MAX_DISKS) }
+    ensures within { IfOk result (λ images. IsPastLimit (texts words.now) → ⊥) }
+    ensures refused { result ≡ Err WordsFault.Words → IsCommand (texts words.now) → ⊥ }
+    ensures past { result ≡ Err WordsFault.Images → IsPastLimit (texts words.now) }
+    ensures past_alone { result ≡ Err WordsFault.Images → IsWithinLimit (texts words.now) → ⊥ }
+{
+    let Some(named) = image_words(words) else {
+        return Err(WordsFault::Words);
+    };
+    let images = images_of(alloc, named)?;
+    if !are_apart(images.as_slice()) {
+        return Err(WordsFault::Words);
+    }
+    if images.len() > MAX_DISKS {
+        return Err(WordsFault::Images);
+    }
+    Ok(images)
+}
