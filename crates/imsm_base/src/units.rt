@@ -5,7 +5,7 @@
 pub struct Sector(pub [u8; 512]);
 
 /// The number of a disk in a bank, from 0.
-#[derive(Clone, Copy, Debug, PartialEq, Eq)]
+#[derive(Clone, Copy, Debug, Default, PartialEq, Eq)]
 pub struct DiskNo(pub u8);
 
 /// The number of a volume in a container, from 0.

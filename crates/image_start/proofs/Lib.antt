@@ -1,0 +1,5 @@
+pub mod Images
+pub mod Contents
+pub mod Told
+pub mod Numbers
+pub mod Found
