@@ -12,20 +12,30 @@ use member_bank::Failed;
 pub struct Status(pub u8);
 
 impl Status {
-    /// The volume starts.
-    pub const STARTED: Status = Status(0);
+    /// The command is done.
+    pub const DONE: Status = Status(0);
     /// The words are not in the grammar.
     pub const WORDS: Status = Status(1);
     /// A disk of the container is absent.
     pub const WAITING: Status = Status(2);
+    /// An operation names a volume that isn't there.
+    pub const REFUSED: Status = Status(3);
+    /// A line of the script isn't in the grammar.
+    pub const SCRIPT: Status = Status(4);
+    /// The script couldn't be read.
+    pub const READ_FAULT: Status = Status(5);
     /// A line couldn't be written.
     pub const WRITE_FAULT: Status = Status(6);
     /// An image couldn't be opened.
     pub const OPEN_FAULT: Status = Status(7);
+    /// The journal is full.
+    pub const JOURNAL_FULL: Status = Status(8);
     /// There was no memory.
     pub const MEMORY: Status = Status(9);
     /// A limit is passed.
     pub const LIMIT: Status = Status(10);
+    /// A call on a disk failed.
+    pub const MEMBER_FAULT: Status = Status(13);
     /// An image isn't of the form that is started today.
     pub const UNBUILT: Status = Status(14);
 }

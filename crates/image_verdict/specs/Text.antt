@@ -1,5 +1,5 @@
 -- The lines of a report. Source: this project's own.
-use Rattle.std.specs.Prelude.{ℕ, ◌+◌, ◌/◌, ◌%◌, ◌==◌, ◌&&◌, nat_lt, nat_le, not, Bool, if◌then◌else◌, List, [], ◌∷◌, ◌++◌, codes}
+use Rattle.std.specs.Prelude.{ℕ, ◌+◌, ◌/◌, ◌%◌, ◌==◌, ◌&&◌, nat_lt, nat_le, not, Bool, true, false, if◌then◌else◌, List, [], ◌∷◌, ◌++◌, codes}
 use Rattle.std.specs.Int.{to_be_bytes, w32}
 use Rattle.std.specs.List.{flat_map, list_all}
 use Rattle.std.specs.Fmt.{decimal}
@@ -71,3 +71,9 @@ abbrev pub report_status : Report → ℕ
 report_status (Unbuilt s) = 14
 report_status (Waiting family generation missing) = 2
 report_status (Started family generation present) = 0
+
+-- the report says that the volume starts
+abbrev pub starts : Report → Bool
+starts (Unbuilt s) = false
+starts (Waiting family generation missing) = false
+starts (Started family generation present) = true

@@ -1,6 +1,6 @@
 //! What is said of images.
 ghost use Rattle.std.specs.Prelude.{◌≡◌};
-ghost use Rattle.image_verdict.specs.Text.{report_status};
+ghost use Rattle.image_verdict.specs.Text.{report_status, starts};
 
 use arrayvec::ArrayVec;
 use image_outside::Status;
@@ -31,7 +31,14 @@ impl Report {
         match self {
             Report::Unbuilt(_) => Status::UNBUILT,
             Report::Waiting { .. } => Status::WAITING,
-            Report::Started { .. } => Status::STARTED,
+            Report::Started { .. } => Status::DONE,
         }
+    }
+
+    /// Whether the volume starts.
+    pub fn starts(&self) -> bool
+        ensures { result ≡ starts self.now }
+    {
+        matches!(self, Report::Started { .. })
     }
 }

@@ -1,0 +1,188 @@
+//! A replay: the images of a bank are read, the script is run on them, and the journal is printed.
+ghost use Rattle.std.specs.Prelude.{◌≡◌, ◌≤◌, ◌⊎◌, ◌++◌, ◌^◌, true, false, [], length, slice_index_or, IfSome, OnOk, OnErr};
+ghost use Rattle.std.specs.List.{list_all};
+ghost use Rattle.member_bank.specs.Faults.{Rose};
+ghost use Rattle.first_opening.specs.Opened.{is_first_op};
+ghost use Rattle.stage.specs.Runs.{OnlyReads};
+ghost use Rattle.stage_law.specs.Runs.{AsksRows};
+ghost use Rattle.image_outside.specs.Outside.{Adds, HasOnlyReads};
+ghost use Rattle.image_outside.specs.Endings.{EndsWithoutMemory};
+ghost use Rattle.journal_text.specs.Lines.{journal_text};
+ghost use Rattle.run_script.specs.Within.{IsWithin};
+ghost use Rattle.member_bank.specs.Told.{Keeps};
+ghost use Rattle.image_verdict.specs.Images.{blank_serial, images_told, serials_of_all, sizes_of_all};
+ghost use Rattle.image_verdict.specs.Endings.{Reports};
+ghost use Rattle.image_start.specs.Starts.{IsStarted, Starts};
+ghost use Rattle.image_replay.specs.Ends.{IsRan, IsUnstarted, asks_second, end_status, volume_named};
+ghost use Rattle.image_replay.specs.Lines.{absent_volume_line, end_line};
+ghost use Rattle.image_replay.specs.Replays.{Plays, Replays};
+
+use crate::lines::{write_failed_member, write_journal};
+use crate::run::{Run, run};
+use array_model::{Entry, OpKind, Script};
+use image_outside::{Sink, Status, end, end_without_memory, write_all};
+use image_verdict::{ImageRead, print_report, read_images, report_on};
+use imsm_base::{DiskNo, SERIAL_BYTES, Serial, VolNo};
+use member_bank::{Bank, Failed};
+use stage::{DriveEnd, StageFault};
+use std::alloc::Global;
+
+/// The volume that an operation names.
+fn volume_of(kind: OpKind) -> VolNo
+    ensures { result.0 ≡ volume_named kind }
+{
+    match kind {
+        OpKind::Write(v, _, _) | OpKind::Read(v, _) | OpKind::Whole(v) => v,
+    }
+}
+
+/// Whether an operation names the second volume, which no container of the first form has.
+fn asks_second(script: &Script) -> bool
+    ensures { result ≡ asks_second script.now.ops }
+{
+    script.ops().iter().any(|op| volume_of(op.kind).0 == 1)
+}
+
+/// The status of a run.
+fn status_of(end: DriveEnd) -> Status
+    ensures { result.0 ≡ end_status end }
+{
+    match end {
+        DriveEnd::Over => Status::DONE,
+        DriveEnd::Full => Status::JOURNAL_FULL,
+        DriveEnd::Member(_) => Status::MEMBER_FAULT,
+    }
+}
+
+/// The serial of a disk.
+fn serial_of(images: &[ImageRead], d: DiskNo) -> Serial
+    ensures { result ≡ slice_index_or (serials_of_all images.now) d.0 blank_serial }
+{
+    match images.get(usize::from(d.0)) {
+        Some(image) => image.serial,
+        None => Serial([0; SERIAL_BYTES]),
+    }
+}
+
+/// Writes the line of a run's end.
+fn write_end<K: Sink>(sink: &mut K, end: DriveEnd, images: &[ImageRead]) -> Result<(), Failed>
+    ensures ok { OnOk result (Adds (K.written sink.old) (K.written sink.new) (end_line (serials_of_all images.now) end)) }
+    ensures err { OnErr result (Rose (K.faults_of sink.old) (K.faults_of sink.new)) }
+{
+    match end {
+        DriveEnd::Over => write_all(sink, b"done\n"),
+        DriveEnd::Full => write_all(sink, b"full\n"),
+        DriveEnd::Member(d) => write_failed_member(sink, &serial_of(images, d)),
+    }
+}
+
+/// Writes the lines of a run.
+fn write_run<K: Sink>(
+    sink: &mut K,
+    entries: &[Entry],
+    end: DriveEnd,
+    images: &[ImageRead],
+) -> Result<(), Failed>
+    ensures ok { OnOk result (Adds (K.written sink.old) (K.written sink.new) (journal_text entries.now ++ end_line (serials_of_all images.now) end)) }
+    ensures err { OnErr result (Rose (K.faults_of sink.old) (K.faults_of sink.new)) }
+{
+    write_journal(sink, entries)?;
+    write_end(sink, end, images)
+}
+
+/// Prints a run.
+fn print_run<K: Sink>(
+    sink: &mut K,
+    entries: &[Entry],
+    end: DriveEnd,
+    images: &[ImageRead],
+) -> Status
+    ensures status { (result.0 ≡ end_status end) ⊎ (result.0 ≡ 6) }
+    ensures lines { result.0 ≡ end_status end → Adds (K.written sink.old) (K.written sink.new) (journal_text entries.now ++ end_line (serials_of_all images.now) end) }
+    ensures fault { result.0 ≡ 6 → Rose (K.faults_of sink.old) (K.faults_of sink.new) }
+{
+    match write_run(sink, entries, end, images) {
+        Ok(()) => status_of(end),
+        Err(Failed) => Status::WRITE_FAULT,
+    }
+}
+
+/// Runs a script on images that start, and prints the run.
+fn play<B: Bank, K: Sink>(
+    alloc: Global,
+    bank: B,
+    images: &[ImageRead],
+    script: &Script,
+    limit: u32,
+    sink: &mut K,
+) -> (B, Status)
+    requires starts { Starts images.now }
+    requires named { B.serials bank ≡ serials_of_all images.now }
+    requires sizes { B.sizes bank ≡ sizes_of_all images.now }
+    requires reads { OnlyReads (B.log bank) }
+    requires limit { limit ≤ 2 ^ 20 }
+    requires rows { AsksRows script.now.ops }
+    requires first { list_all is_first_op script.now.ops ≡ true }
+    ensures status { IsRan result.1.0 ⊎ (result.1.0 ≡ 6) ⊎ (result.1.0 ≡ 9) }
+    ensures write_fault { result.1.0 ≡ 6 → Rose (K.faults_of sink.old) (K.faults_of sink.new) }
+    ensures memory { result.1.0 ≡ 9 → EndsWithoutMemory (K.written sink.old) (K.written sink.new) (K.faults_of sink.old) (K.faults_of sink.new) }
+    ensures unrun { result.1.0 ≡ 9 → result.0 ≡ bank }
+    ensures played { IsRan result.1.0 → Plays B.serials B.opening B.log B.faults_of images.now script.now limit (K.written sink.old) (K.written sink.new) result.1.0 bank result.0 }
+    ensures opening { Keeps (B.opening bank) (B.opening result.0) }
+    ensures same { (B.serials result.0 ≡ B.serials bank) × (B.sizes result.0 ≡ B.sizes bank) }
+{
+    match run(alloc, bank, images, script, limit) {
+        Ok(Run { bank, journal, end }) => {
+            let status = print_run(sink, journal.entries(), end, images);
+            (bank, status)
+        }
+        Err((bank, StageFault::Memory)) => (bank, end_without_memory(sink)),
+    }
+}
+
+/// Replays a script on the disks of a bank, of which there are 1 to 16: its turns, and then all that is left to do.
+///
+/// The status is 0 where each operation has its answer, 2 where a disk of the container is absent, 3 where an operation
+/// names a volume that isn't there, 6 where a line couldn't be written, 8 where the journal has no room for a turn, 9
+/// without memory, 13 where a call on a disk failed, and 14 where an image isn't of the form that is started today.
+pub fn replay<B: Bank, K: Sink>(
+    alloc: Global,
+    mut bank: B,
+    script: &Script,
+    limit: u32,
+    sink: &mut K,
+) -> (B, Status)
+    requires fresh { IfSome (B.log bank) (λ l. l ≡ []) }
+    requires some { 1 ≤ length (B.serials bank) }
+    requires limit { limit ≤ 2 ^ 20 }
+    requires script { IsWithin script.now }
+    ensures status { IsUnstarted result.1.0 ⊎ (result.1.0 ≡ 3) ⊎ IsRan result.1.0 ⊎ (result.1.0 ≡ 6) ⊎ (result.1.0 ≡ 9) }
+
+    // No disk is written or synced where no run was made.
+    ensures reads { IsUnstarted result.1.0 ⊎ (result.1.0 ≡ 3) ⊎ (result.1.0 ≡ 9) → HasOnlyReads B.log result.0 }
+
+    // When each status comes, and what is printed.
+    ensures write_fault { result.1.0 ≡ 6 → Rose (K.faults_of sink.old) (K.faults_of sink.new) }
+    ensures memory { result.1.0 ≡ 9 → EndsWithoutMemory (K.written sink.old) (K.written sink.new) (K.faults_of sink.old) (K.faults_of sink.new) }
+    ensures reported { IsUnstarted result.1.0 → IfSome (B.opening result.0) (λ opening. IfSome (B.log result.0) (λ log.
+        Reports (images_told (B.serials bank) (B.sizes bank) opening log) (K.written sink.old) (K.written sink.new) result.1.0)) }
+    ensures absent { result.1.0 ≡ 3 → (asks_second script.now.ops ≡ true) × Adds (K.written sink.old) (K.written sink.new) absent_volume_line }
+    ensures absent_from { result.1.0 ≡ 3 → IfSome (B.opening result.0) (λ opening. IfSome (B.log result.0) (λ log. IsStarted (images_told (B.serials bank) (B.sizes bank) opening log))) }
+    ensures there { IsRan result.1.0 → asks_second script.now.ops ≡ false }
+    ensures replayed { IsRan result.1.0 → Replays B.serials B.sizes B.opening B.log B.faults_of script.now limit (K.written sink.old) (K.written sink.new) result.1.0 bank result.0 }
+    ensures serials { B.serials result.0 ≡ B.serials bank }
+{
+    let images = match read_images(alloc, &mut bank) {
+        Ok(images) => images,
+        Err(_) => return (bank, end_without_memory(sink)),
+    };
+    let report = report_on(images.as_slice());
+    if !report.starts() {
+        let status = print_report(alloc, &report, sink);
+        return (bank, status);
+    }
+    if asks_second(script) {
+        return (bank, end(sink, b"volume 1 absent\n", Status::REFUSED));
+    }
+    play(alloc, bank, images.as_slice(), script, limit, sink)
+}

@@ -1,0 +1,73 @@
+//! A run of a script, from its opening to its end.
+ghost use Rattle.std.specs.Prelude.{◌≡◌, ◌≤◌, ◌^◌, true, List, IfOk, IfErr};
+ghost use Rattle.std.specs.List.{list_all};
+ghost use Rattle.imsm_base.specs.declared.units.Sector.{Sector};
+ghost use Rattle.member_bank.specs.Told.{Keeps};
+ghost use Rattle.member_bank.specs.Faults.{Rose};
+ghost use Rattle.array_model.specs.Kept.{asked_by};
+ghost use Rattle.first_opening.specs.Opened.{is_first_op};
+ghost use Rattle.stage.specs.Runs.{OnlyReads};
+ghost use Rattle.stage.specs.Drives.{Follows, EndsBy, AllStill};
+ghost use Rattle.stage.specs.Causes.{KeepsBank};
+ghost use Rattle.stage.specs.declared.ends.DriveEnd.TheVariants.{Over};
+ghost use Rattle.stage_law.specs.Runs.{AsksRows};
+ghost use Rattle.image_start.specs.Starts.{Starts, StandIn, sizes_of_all};
+ghost use Rattle.image_start.specs.Openings.{opened_on};
+ghost use Rattle.image_replay.specs.Runs.{LeavesRun};
+
+use array_model::{Journal, Script, Turn};
+use image_start::opening_of;
+use image_verdict::ImageRead;
+use member_bank::Bank;
+use stage::{DriveEnd, Stage, StageFault};
+use stage_law::finish;
+use std::alloc::Global;
+
+/// What a run leaves: the bank, the journal, and why it ended.
+#[derive(Drop)]
+pub struct Run<B: Bank> {
+    pub bank: B,
+    pub journal: Journal,
+    pub end: DriveEnd,
+}
+
+/// Makes the turns of a script, and then drains.
+fn run_out<B: Bank>(stage: &mut Stage<B>, turns: &[Turn]) -> DriveEnd
+    ensures follows { Follows stage.old stage.new }
+    ensures opening { Keeps (B.opening stage.old.bank) (B.opening stage.new.bank) }
+    ensures bank { KeepsBank B.serials B.sizes B.log B.faults_of stage.old stage.new }
+    ensures ends { EndsBy stage.new result }
+    ensures over { result ≡ Over → AllStill stage.new }
+{
+    match stage.drive(turns) {
+        DriveEnd::Over => stage.drain(),
+        end => end,
+    }
+}
+
+/// Runs a script on the volume of a bank whose images start. Without memory the bank comes back as it was.
+pub fn run<B: Bank>(
+    alloc: Global,
+    bank: B,
+    images: &[ImageRead],
+    script: &Script,
+    limit: u32,
+) -> Result<Run<B>, (B, StageFault)>
+    requires starts { Starts images.now }
+    requires sizes { B.sizes bank ≡ sizes_of_all images.now }
+    requires reads { OnlyReads (B.log bank) }
+    requires limit { limit ≤ 2 ^ 20 }
+    requires rows { AsksRows script.now.ops }
+    requires first { list_all is_first_op script.now.ops ≡ true }
+    ensures ok { IfOk result (λ r. (contents : List (List Sector)) → StandIn images.now contents
+        → LeavesRun B.opening B.log (opened_on images.now contents) (asked_by script.now) limit
+        (λ d. Rose (B.faults_of bank d) (B.faults_of r.bank d)) (B.log bank) r.bank r.journal.entries r.end) }
+    ensures opening { IfOk result (λ r. Keeps (B.opening bank) (B.opening r.bank)) }
+    ensures same { IfOk result (λ r. (B.serials r.bank ≡ B.serials bank) × (B.sizes r.bank ≡ B.sizes bank)) }
+    ensures err { IfErr result (λ e. e.0 ≡ bank) }
+{
+    let mut stage = Stage::open(alloc, bank, opening_of(images), script, limit)?;
+    let end = run_out(&mut stage, script.turns());
+    let (bank, journal) = finish(stage);
+    Ok(Run { bank, journal, end })
+}
