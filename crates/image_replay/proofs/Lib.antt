@@ -1,1 +1,4 @@
-
+pub mod Leaves
+pub mod Printed
+pub mod Scripts
+pub mod Held

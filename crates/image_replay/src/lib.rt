@@ -2,8 +2,8 @@
 #![tactic(auto)]
 
 mod lines;
-mod replay;
-mod run;
+mod replays;
+mod runs;
 
-pub use replay::replay;
-pub use run::{Run, run};
+pub use replays::replay;
+pub use runs::{Finished, run};

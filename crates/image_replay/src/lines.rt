@@ -9,7 +9,7 @@ ghost use Rattle.image_replay.specs.Lines.{failed_member_line};
 
 use array_model::Entry;
 use image_outside::{Sink, write_all};
-use image_verdict::{digit, is_plain, trimmed};
+use image_verdict::{digit, is_plain, name_bytes};
 use imsm_base::Serial;
 use journal_text::line_of;
 use member_bank::Failed;
@@ -57,7 +57,7 @@ fn write_serial<K: Sink>(sink: &mut K, serial: &Serial) -> Result<(), Failed>
     ensures later { K.faults_of sink.old ≤ K.faults_of sink.new }
     ensures err { OnErr result (Rose (K.faults_of sink.old) (K.faults_of sink.new)) }
 {
-    let bytes = trimmed(&serial.0);
+    let bytes = name_bytes(serial);
     if bytes.is_empty() {
         write_escaped(sink, 0)
     } else {

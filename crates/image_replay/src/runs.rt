@@ -11,7 +11,8 @@ ghost use Rattle.stage.specs.Drives.{Follows, EndsBy, AllStill};
 ghost use Rattle.stage.specs.Causes.{KeepsBank};
 ghost use Rattle.stage.specs.declared.ends.DriveEnd.TheVariants.{Over};
 ghost use Rattle.stage_law.specs.Runs.{AsksRows};
-ghost use Rattle.image_start.specs.Starts.{Starts, StandIn, sizes_of_all};
+ghost use Rattle.image_start.specs.Starts.{Starts, StandIn};
+ghost use Rattle.image_verdict.specs.Images.{sizes_of_all};
 ghost use Rattle.image_start.specs.Openings.{opened_on};
 ghost use Rattle.image_replay.specs.Runs.{LeavesRun};
 
@@ -25,7 +26,7 @@ use std::alloc::Global;
 
 /// What a run leaves: the bank, the journal, and why it ended.
 #[derive(Drop)]
-pub struct Run<B: Bank> {
+pub struct Finished<B: Bank> {
     pub bank: B,
     pub journal: Journal,
     pub end: DriveEnd,
@@ -52,7 +53,7 @@ pub fn run<B: Bank>(
     images: &[ImageRead],
     script: &Script,
     limit: u32,
-) -> Result<Run<B>, (B, StageFault)>
+) -> Result<Finished<B>, (B, StageFault)>
     requires starts { Starts images.now }
     requires sizes { B.sizes bank ≡ sizes_of_all images.now }
     requires reads { OnlyReads (B.log bank) }
@@ -69,5 +70,5 @@ pub fn run<B: Bank>(
     let mut stage = Stage::open(alloc, bank, opening_of(images), script, limit)?;
     let end = run_out(&mut stage, script.turns());
     let (bank, journal) = finish(stage);
-    Ok(Run { bank, journal, end })
+    Ok(Finished { bank, journal, end })
 }

@@ -18,7 +18,7 @@ ghost use Rattle.image_replay.specs.Lines.{absent_volume_line, end_line};
 ghost use Rattle.image_replay.specs.Replays.{Plays, Replays};
 
 use crate::lines::{write_failed_member, write_journal};
-use crate::run::{Run, run};
+use crate::runs::{Finished, run};
 use array_model::{Entry, OpKind, Script};
 use image_outside::{Sink, Status, end, end_without_memory, write_all};
 use image_verdict::{ImageRead, print_report, read_images, report_on};
@@ -132,7 +132,7 @@ fn play<B: Bank, K: Sink>(
     ensures same { (B.serials result.0 ≡ B.serials bank) × (B.sizes result.0 ≡ B.sizes bank) }
 {
     match run(alloc, bank, images, script, limit) {
-        Ok(Run { bank, journal, end }) => {
+        Ok(Finished { bank, journal, end }) => {
             let status = print_run(sink, journal.entries(), end, images);
             (bank, status)
         }
