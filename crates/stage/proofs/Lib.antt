@@ -9,3 +9,4 @@ pub mod Opened
 pub mod Stilled
 pub mod Driven
 pub mod Kept
+pub mod Driving

@@ -5,3 +5,4 @@ pub mod Opens
 pub mod Ends
 pub mod Drives
 pub mod Causes
+pub mod Turns

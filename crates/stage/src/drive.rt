@@ -4,6 +4,7 @@ ghost use Rattle.member_bank.specs.Told.{Keeps};
 ghost use Rattle.stage.specs.declared.ends.DriveEnd.TheVariants.{Over};
 ghost use Rattle.stage.specs.Causes.{KeepsBank};
 ghost use Rattle.stage.specs.Drives.{Follows, EndsBy, TurnEnds, Cycled, ClientsCycled, AllStill, went_after};
+ghost use Rattle.stage.specs.Turns.{TurnMade, Drove};
 
 use crate::ends::{Cycle, DriveEnd};
 use crate::stage::Stage;
@@ -20,6 +21,7 @@ impl<B: Bank> Stage<B> {
         ensures opening { Keeps (B.opening self.old.bank) (B.opening self.new.bank) }
         ensures bank { KeepsBank B.serials B.sizes B.log B.faults_of self.old self.new }
         ensures ends { TurnEnds self.new result }
+        ensures made { TurnMade self.old self.new turn result }
     {
         match turn {
             Turn::Monitor => self.monitor_turn(),
@@ -35,6 +37,7 @@ impl<B: Bank> Stage<B> {
         ensures opening { Keeps (B.opening self.old.bank) (B.opening self.new.bank) }
         ensures bank { KeepsBank B.serials B.sizes B.log B.faults_of self.old self.new }
         ensures ends { EndsBy self.new result }
+        ensures drove { Drove self.old turns.now self.new result }
     {
         for turn in turns {
             match self.turn(*turn) {
