@@ -2,6 +2,7 @@
 use Rattle.std.proofs.Common.{◌≡◌, ℕ, ◌≤◌, Bool, true, false, List, [], length, map, Option, Some, None, refl, ap, sym, subst, ◌∙◌, arith}
 use Rattle.std.specs.Prelude.{IfSome, ◌≢◌}
 use Rattle.std.specs.List.{AllPairs}
+use Rattle.imsm_base.specs.declared.bounds.TheConstants.{MAX_DISKS}
 use Rattle.imsm_base.specs.declared.units.Sector.{Sector}
 use Rattle.imsm_base.specs.declared.units.Serial.{Serial}
 use Rattle.device_log.specs.Log.{Call}
@@ -23,6 +24,18 @@ pub started_of : (images : List ImageRead) (report : Report) → IsReport images
 started_of images (Unbuilt s) is on = absurd (cc on)
 started_of images (Waiting family generation missing) is on = absurd (cc on)
 started_of images (Started family generation present) is on = record { family = family; generation = generation; present = present; reported = is }
+
+-- the images of a bank start where the report on them says so
+pub starts_as : (images given read : List ImageRead) (serials : List Serial) (report : Report) → given ≡ images → read ≡ images → IsReport read report → starts report ≡ true
+    → 1 ≤ length serials → length images ≡ length serials → length images ≤ MAX_DISKS → serials_of_all images ≡ serials → AllPairs (λ a b. a ≢ b) serials → Starts given
+starts_as images given read serials report is was reported on some count few named distinct =
+    subst Starts (sym is)
+    (record {
+      some = omega (arith, some, count);
+      few = few;
+      distinct = subst (λ (s : List Serial). AllPairs (λ a b. a ≢ b) s) (sym named) distinct;
+      started = started_of images report (subst (λ (i : List ImageRead). IsReport i report) was reported) on;
+    })
 
 -- what a bank tells of its images
 abbrev pub Told : List ImageRead → List Serial → List ℕ → Option (List (List Sector)) → Option (List Call) → Type 0

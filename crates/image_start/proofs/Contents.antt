@@ -79,7 +79,7 @@ is-opening images contents s stand =
 
 -- THERE ARE SUCH CONTENTS
 
-abbrev filled : ImageRead → List Sector
+abbrev pub filled : ImageRead → List Sector
 filled i = replicate (i.sectors - 2) no_sector ++ unwrap_or i.anchor no_sector ∷ no_sector ∷ []
 
 behind : {X : Type 0} (n : ℕ) (z x : X) (xs : List X) → slice_get (replicate n z ++ x ∷ xs) n ≡ Some x

@@ -28,6 +28,7 @@ fn read_anchor<B: Bank>(bank: &mut B, d: DiskNo) -> Option<Sector>
     ensures gives { IfSome result (λ anchor. Gives (B.opening bank.new) (B.log bank.new) d.0 (anchor_place (slice_index (B.sizes bank.old) d.0)) anchor) }
     ensures small { slice_index (B.sizes bank.old) d.0 < METADATA_SECTORS → result ≡ None }
     ensures opening { Keeps (B.opening bank.old) (B.opening bank.new) }
+    ensures later { (k : ℕ) → B.faults_of bank.old k ≤ B.faults_of bank.new k }
     ensures sizes { B.sizes bank.new ≡ B.sizes bank.old }
     ensures serials { B.serials bank.new ≡ B.serials bank.old }
 {
@@ -51,6 +52,7 @@ fn read_image<B: Bank>(bank: &mut B, d: DiskNo) -> ImageRead
     ensures serial { slice_get (B.serials bank.old) d.0 ≡ Some result.serial }
     ensures sectors { result.sectors ≡ slice_index (B.sizes bank.old) d.0 }
     ensures opening { Keeps (B.opening bank.old) (B.opening bank.new) }
+    ensures later { (k : ℕ) → B.faults_of bank.old k ≤ B.faults_of bank.new k }
     ensures sizes { B.sizes bank.new ≡ B.sizes bank.old }
     ensures serials { B.serials bank.new ≡ B.serials bank.old }
 {
@@ -73,6 +75,7 @@ pub fn read_images<B: Bank>(alloc: Global, bank: &mut B) -> Result<Vec<ImageRead
     ensures measured { IfSome (B.opening bank.new) (λ opening. map (λ disk. length disk) opening ≡ B.sizes bank.old) }
     ensures told { IfOk result (λ images. IfSome (B.opening bank.new) (λ opening. IfSome (B.log bank.new) (λ log.
         images.items ≡ images_told (B.serials bank.old) (B.sizes bank.old) opening log))) }
+    ensures later { (k : ℕ) → B.faults_of bank.old k ≤ B.faults_of bank.new k }
     ensures sizes { B.sizes bank.new ≡ B.sizes bank.old }
     ensures serials { B.serials bank.new ≡ B.serials bank.old }
 {

@@ -25,6 +25,7 @@ loop-d-preserved g c =
           ∙ mapped_next (λ (i : ImageRead). i.sectors) (B.sizes c.args.bank.now) c.loop-d.d c.loop-d.images.items c.read_image.result c.loop-d.invariant.sized
           (size_there (B.sizes c.args.bank.now) c.loop-d.d c.read_image.result.sectors (let below = c.loop-d-test.true in let count = c.disks-count.ensures.count in omega (arith, below, count)) (c.read_image.ensures.sectors ∙ ap (λ (xs : List ℕ). slice_index xs c.loop-d.d) c.loop-d.invariant.sizes));
       opening = λ told is. c.loop-d.invariant.opening told (c.read_image.ensures.opening told is);
+      later = λ k. let first = c.loop-d.invariant.later k in let second = c.read_image.ensures.later k in omega (arith, first, second);
       sizes = c.read_image.ensures.sizes ∙ c.loop-d.invariant.sizes;
       serials = c.read_image.ensures.serials ∙ c.loop-d.invariant.serials;
     }

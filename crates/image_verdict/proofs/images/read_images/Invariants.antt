@@ -1,4 +1,4 @@
-use Rattle.std.proofs.Common.{◌≡◌, length, take}
+use Rattle.std.proofs.Common.{◌≡◌, ℕ, ◌≤◌, length, take}
 use Rattle.member_bank.specs.Told.{Keeps}
 use Rattle.image_verdict.specs.Images.{AreRead, serials_of_all, sizes_of_all}
 use Rattle.image_verdict.proofs.images.read_images.Given as goal
@@ -10,6 +10,7 @@ invariant-loop-d g l = record {
   named : serials_of_all l.images.items ≡ take l.d (g.B.Bank.serials l.initial.bank);
   sized : sizes_of_all l.images.items ≡ take l.d (g.B.Bank.sizes l.initial.bank);
   opening : Keeps (g.B.Bank.opening l.initial.bank) (g.B.Bank.opening l.bank);
+  later : (k : ℕ) → g.B.Bank.faults_of l.initial.bank k ≤ g.B.Bank.faults_of l.bank k;
   sizes : g.B.Bank.sizes l.bank ≡ g.B.Bank.sizes l.initial.bank;
   serials : g.B.Bank.serials l.bank ≡ g.B.Bank.serials l.initial.bank;
 }
