@@ -1,9 +1,9 @@
 -- What the opening found: the newest block as it is read, and the disks that it expects.
-use Rattle.std.proofs.Common.{◌≡◌, ℕ, zero, suc, ◌-◌, ◌<◌, ◌≤◌, ◌&&◌, Bool, true, false, List, [], ◌∷◌, length, map, take, slice_index, slice_index_or, nat_lt, refl, sym, ◌∙◌, ap, subst, arith}
+use Rattle.std.proofs.Common.{◌≡◌, ℕ, zero, suc, ◌-◌, ◌<◌, ◌≤◌, ◌&&◌, Bool, true, false, List, [], ◌∷◌, length, map, slice_get, slice_index, slice_index_or, nat_lt, Option, Some, None, refl, sym, ◌∙◌, ap, subst, arith}
 use Rattle.std.specs.List.{list_all}
+use Rattle.std.specs.Option.{IsSomeAnd}
 use Rattle.std.proofs.lemmas.Bool.{and_parts, and_right, ltb-true, ltb-false, false≢true}
 use Rattle.std.proofs.lemmas.Option.{get_or_from_slice_get}
-use Rattle.std.proofs.lemmas.List.{append-nil}
 use Rattle.imsm_base.specs.declared.units.Sector.{Sector}
 use Rattle.imsm_base.specs.Fields.{Part, number_at}
 use Rattle.imsm_base.specs.Layout.{Block, disk_count_of, serial_of, total_blocks_of}
@@ -11,6 +11,7 @@ use Rattle.imsm_base.specs.Edits.{first_sector}
 use Rattle.imsm_base.specs.Parts.{block_in}
 use Rattle.imsm_base.specs.Whole.{IsWholeBlock, IsWholeDisk, anchor_place, expected_serials}
 use Rattle.imsm_base.proofs.Apart.{length-disks}
+use Rattle.imsm_codec.specs.Given.{given_block}
 use Rattle.device_log.specs.Cells.{Cell, resting}
 use Rattle.array_model.specs.Blocks.{Laid}
 use Rattle.array_model.specs.Candidates.{standing, standing_from}
@@ -23,8 +24,9 @@ use Rattle.block_words.specs.Renewed.{renewed, renewed_bytes}
 use Rattle.block_words.proofs.Decided.{disk-decided}
 use Rattle.block_words.proofs.Renewal.{first-form}
 use Rattle.stage_machine.specs.Setting.{has}
-use Rattle.stage_machine.specs.Opens.{StandsOnAll}
+use Rattle.stage_machine.specs.Opens.{SaysAll, StandsOnAll}
 use Rattle.first_opening.specs.Opened.{Opened, IsOpening, serial_at, newest_of, block_of, numbers_of, targets_of, setting_of}
+use Rattle.first_opening.proofs.Behind.{alone_in, bytes-alone, says-all}
 use Rattle.first_opening.proofs.Numbers.{has-filter, filter-all, below-range, range-has}
 use Rattle.first_opening.proofs.Records.{Speaks, speaks, expected-serial, no-empty-serial}
 
@@ -44,7 +46,7 @@ two-records o is = length-disks (block_of o) ∙ count-is (block_of o) ∙ is.fi
 
 -- its bytes, as the laws read them
 pub bytes-are : (o : Opened) → bytes_of_laid (newest_of o) ≡ block_of o
-bytes-are o = ap (take (number_at 4 36 o.anchor.0)) (append-nil o.anchor.0)
+bytes-are o = bytes-alone o.anchor
 
 -- a round edits these bytes, and no others
 pub round-edits : (o : Opened) (g : ℕ) (y : Bool) → (renewed (newest_of o) g y).anchor.0 ≡ first_sector (renewed_bytes (block_of o) g y)
@@ -140,17 +142,30 @@ abbrev bank : Opened → Disks
 bank o = disks_of o.serials o.sizes o.contents
 
 -- a block of one sector stands where its anchor does
-anchor-stands : (n : ℕ) (cells : ℕ → Cell) (anchor : Sector) → (cells (anchor_place n)).stood ≡ anchor → block_words.extra anchor ≡ 0 → standing block_words n cells ≡ record { anchor = anchor; extended = [] }
-anchor-stands n cells anchor here alone =
-    let place : ℕ = anchor_place n in
-    ap (λ (a : Sector). let m : Laid = record { anchor = a; extended = standing_from cells (place - block_words.extra a) (block_words.extra a) } in m) here
-    ∙ ap (λ (k : ℕ). let m : Laid = record { anchor = anchor; extended = standing_from cells (place - k) k } in m) alone
+anchor-stands : (n : ℕ) (cells : ℕ → Cell) → block_words.extra (cells (anchor_place n)).stood ≡ 0 → standing block_words n cells ≡ alone_in (cells (anchor_place n)).stood
+anchor-stands n cells alone =
+    let anchor : Sector = (cells (anchor_place n)).stood in
+    ap (λ (k : ℕ). let m : Laid = record { anchor = anchor; extended = standing_from cells (anchor_place n - k) k } in m) alone
 
-stands-on : (o : Opened) (d : ℕ) → IsOpening o → d < length o.serials → standing block_words (slice_index o.sizes d) (λ p. resting ((bank o).opening d p)) ≡ newest_of o
+-- the anchor sector of each disk begins with the block
+begins-with : (o : Opened) (d : ℕ) → IsOpening o → d < length o.serials → given_block ((bank o).opening d (anchor_place (slice_index o.sizes d))).0 ≡ block_of o
+begins-with o d is below = at (slice_get (slice_index_or o.contents d []) (anchor_place (slice_index o.sizes d))) refl (is.anchored d below)
+  where
+    at : (found : Option Sector) → slice_get (slice_index_or o.contents d []) (anchor_place (slice_index o.sizes d)) ≡ found → IsSomeAnd found (λ s. given_block s.0 ≡ block_of o)
+        → given_block ((bank o).opening d (anchor_place (slice_index o.sizes d))).0 ≡ block_of o
+    at None here h = absurd h
+    at (Some s) here h =
+        ap (λ (x : Sector). given_block x.0) (get_or_from_slice_get (slice_index_or o.contents d []) (anchor_place (slice_index o.sizes d)) s (record { 0 = [] }) here) ∙ h
+
+stands-on : (o : Opened) (d : ℕ) → IsOpening o → d < length o.serials → SaysAll block_words (standing block_words (slice_index o.sizes d) (λ p. resting ((bank o).opening d p))) (newest_of o)
 stands-on o d is below =
     let n : ℕ = slice_index o.sizes d in
-    let here : (bank o).opening d (anchor_place n) ≡ o.anchor = get_or_from_slice_get (slice_index_or o.contents d []) (anchor_place n) o.anchor (record { 0 = [] }) (is.anchored d below) in
-    anchor-stands n (λ p. resting ((bank o).opening d p)) o.anchor here (renewable o is).alone
+    let cells : ℕ → Cell = λ p. resting ((bank o).opening d p) in
+    let w : IsWholeBlock (block_of o) (block_in (block_of o)) = (found o is).whole in
+    let long : 216 ≤ length (block_of o) = let least = w.sized.least in let given = w.given in omega (arith, least, given) in
+    let says : SaysAll block_words (alone_in (cells (anchor_place n)).stood) (newest_of o) =
+    says-all (cells (anchor_place n)).stood o.anchor (begins-with o d is below) long in
+    subst (λ (m : Laid). SaysAll block_words m (newest_of o)) (sym (anchor-stands n cells (says.extra ∙ (renewable o is).alone))) says
 
 pub stands-on-all : (o : Opened) (asked : Asked) (content : ℕ → ℕ → Sector) (unsure : ℕ → ℕ → Bool) → IsOpening o → StandsOnAll (setting_of o asked content unsure)
 stands-on-all o asked content unsure is = record {

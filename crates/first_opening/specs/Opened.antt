@@ -2,6 +2,7 @@
 -- this project's own.
 use Rattle.std.specs.Prelude.{◌≡◌, ℕ, ◌<◌, ◌==◌, ◌&&◌, nat_lt, Bool, true, false, List, [], length, map, filter, flat_map, slice_get, slice_index, slice_index_or, Some, None}
 use Rattle.std.specs.List.{list_all, range_with_len}
+use Rattle.std.specs.Option.{IsSomeAnd}
 use Rattle.std.specs.Str.{bytes_eq}
 use Rattle.imsm_base.specs.declared.units.Sector.{Sector}
 use Rattle.imsm_base.specs.Layout.{serial_of}
@@ -78,8 +79,8 @@ setting_of o asked content unsure = record {
 -- WHAT THE OPENING FOUND
 
 -- Each disk is whole by the block, which is of the first form; the disks are those of the block's table, each with a
--- serial of its own. The anchors of all disks are one sector: they agree on the block, and on the bytes behind its end,
--- whatever these are.
+-- serial of its own. All anchors begin with the block, each with bytes of its own behind the block's end, and one of them
+-- is the anchor that was read.
 pub record IsOpening (o : Opened) : Type 0 where
   pub sizes : o.sizes ≡ map (λ (sectors : List Sector). length sectors) o.contents
   pub apart : AreApart o.serials
@@ -88,7 +89,9 @@ pub record IsOpening (o : Opened) : Type 0 where
   pub whole : (d : ℕ) → d < length o.serials
       → IsWholeDisk (serial_at o d) (slice_index o.sizes d) (block_of o) (block_in (block_of o))
   pub anchored : (d : ℕ) → d < length o.serials
-      → slice_get (slice_index_or o.contents d []) (anchor_place (slice_index o.sizes d)) ≡ Some o.anchor
+      → IsSomeAnd (slice_get (slice_index_or o.contents d []) (anchor_place (slice_index o.sizes d))) (λ s. given_block s.0 ≡ block_of o)
+  pub read : (d : ℕ) × (d < length o.serials)
+      × (slice_get (slice_index_or o.contents d []) (anchor_place (slice_index o.sizes d)) ≡ Some o.anchor)
 
 -- an operation of a client below 16, on volume 0
 abbrev pub is_in_first : OpKind → Bool

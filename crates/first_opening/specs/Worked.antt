@@ -1,5 +1,5 @@
--- A bank that opens: two disks of 4,096 sectors that hold the container of the example, the same bytes behind its block,
--- and zeros. Source: this project's own.
+-- A bank that opens: two disks of 4,096 sectors that hold the container of the example, any bytes behind its block, and
+-- zeros. Source: this project's own.
 use Rattle.std.specs.Prelude.{ℕ, List, [], ◌∷◌, ◌++◌, replicate}
 use Rattle.imsm_base.specs.declared.bounds.TheConstants.{SECTOR_BYTES}
 use Rattle.imsm_base.specs.declared.units.Sector.{Sector}
@@ -21,10 +21,11 @@ mirror_disk behind = replicate 4094 zeros ++ mirror_anchor behind ∷ zeros ∷ 
 abbrev pub serial_of_letter : ℕ → List ℕ
 serial_of_letter letter = letter ∷ replicate 15 0
 
-abbrev pub mirror_opened : (behind : List ℕ) → Opened
-mirror_opened behind = record {
+-- the block is read from the first disk
+abbrev pub mirror_opened : (behind other : List ℕ) → Opened
+mirror_opened behind other = record {
   serials = serial_of_letter 65 ∷ serial_of_letter 66 ∷ [];
   sizes = 4096 ∷ 4096 ∷ [];
-  contents = mirror_disk behind ∷ mirror_disk behind ∷ [];
+  contents = mirror_disk behind ∷ mirror_disk other ∷ [];
   anchor = mirror_anchor behind;
 }

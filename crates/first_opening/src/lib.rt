@@ -30,8 +30,8 @@ pub fn each_round_renews()
     ensures renews { (o : Opened) (asked : Asked) (content : ℕ → ℕ → Sector) (unsure : ℕ → ℕ → Bool) → Renews (setting_of o asked content unsure) }
 {}
 
-/// The newest block's bytes are those that the anchor begins with. It expects each disk of the bank, stands on each in one
-/// sector, and is whole there.
+/// The newest block's bytes are those that the anchor begins with. It expects each disk of the bank, and is whole there.
+/// On each stands, in one sector, what says all that it says, whatever bytes follow it there.
 pub fn the_newest_block_stands_on_all()
     ensures bytes { (o : Opened) → bytes_of_laid (newest_of o) ≡ block_of o }
     ensures targets { (o : Opened) → IsOpening o → targets_of o ≡ numbers_of o }
@@ -64,10 +64,10 @@ pub fn the_script_is_taken()
     ensures { (o : Opened) (asked : Asked) (content : ℕ → ℕ → Sector) (unsure : ℕ → ℕ → Bool) → list_all is_first_op asked.ops ≡ true → AsksFirst (setting_of o asked content unsure) }
 {}
 
-/// A bank of two disks that hold a new container of the first form opens so, whatever bytes follow the block in both
-/// anchors.
+/// A bank of two disks that hold a new container of the first form opens so, whatever bytes follow the block in each
+/// anchor.
 pub fn the_worked_bank_opens()
-    ensures { (behind : List ℕ) → IsOpening (mirror_opened behind) }
+    ensures { (behind other : List ℕ) → IsOpening (mirror_opened behind other) }
 {
     example_of_a_whole_block();
 }

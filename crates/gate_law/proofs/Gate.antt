@@ -29,40 +29,44 @@ use Rattle.stage_machine.specs.Machine.{Control, World, Action, Reached, opens, 
 use Rattle.stage_machine.proofs.Turns.{Turns, turns_of, nothing, fails, anchors, settles, ends, begins, readies, actives, cleans, rests, pasts, asks_read, asks_write, puts, syncs, gets, acks}
 use Rattle.stage_machine.proofs.Moments.{always_more, always_none, EachFront, counted_reached}
 use Rattle.stage_machine.proofs.Clients.{Mine, mine_reached}
-use Rattle.stage_machine.proofs.Stands.{Settled, GoodRound, good_reached, fitted}
-use Rattle.stage_machine.proofs.Targets.{Stand, StandsIn, stand_turns, stand_reached, disk}
+use Rattle.stage_machine.proofs.Stands.{GoodRound, good_reached, fitted}
+use Rattle.stage_machine.proofs.Targets.{Stand, Held, stand_turns, stand_reached, disk}
 use Rattle.stage_machine.proofs.Ours.{AreOurs, IsOurs, ours_reached}
 use Rattle.stage_machine.proofs.Finished.{IsFine, fine_reached, finished_good}
 use Rattle.gate_law.proofs.Live.{live, live-append, live_reached, others_dead, safe_reached, WritesLive, writes_reached, goes_active}
 
 -- DURABLE FACTS
 
+-- what a target holds while no round is going on
+abbrev pub HeldAtRest : Setting → (last : Laid) → List Call → Type 0
+HeldAtRest S last log = (d : ℕ) → has d S.targets ≡ true → Held S last d (disk S log d) Rest
+
 module _ (S : Setting) (on : StandsOnAll S) (volume : IsFirstVolume S) where
-  -- each target holds the block of the last finished round alone, so what holds of that is durable
-  pub durable_at : (P : Laid → Type 0) (log : List Call) (journal : List Entry) (last : Laid) → AllByRecursion (IsFine S) log → ((d : ℕ) → has d S.targets ≡ true → Settled S d last (disk S log d))
-      → P last → DurableOnWorking S.start log journal P
-  durable_at P log journal last fine settled holds m finished d working =
+  -- each target holds one block alone, which is dirty where that of the last finished round is; so that is durable
+  pub dirty_as : (y : Bool) (log : List Call) (journal : List Entry) (last : Laid) → AllByRecursion (IsFine S) log → HeldAtRest S last log
+      → S.start.words.is_dirty last 0 ≡ y → DurableOnWorking S.start log journal (λ m. S.start.words.is_dirty m 0 ≡ y)
+  dirty_as y log journal last fine held is_so m finished d working =
       let same = (finished_good S volume on log journal m fine finished).expects (S.start.disks.serial d) in
       let target : has d S.targets ≡ true = sym (on.expected d) ∙ sym same ∙ working.expected in
-      let it = settled d target in
+      let it = held d target in
       record {
-        some = let is = ap (λ (xs : List Laid). length xs) it.candidates in omega (arith, is);
-        each = subst (AllByRecursion P) (sym it.candidates) (holds, tt);
+        some = let is = ap (λ (xs : List Laid). length xs) it.stands.candidates in omega (arith, is);
+        each = subst (AllByRecursion (λ m. S.start.words.is_dirty m 0 ≡ y)) (sym it.stands.candidates) (it.says.dirty 0 ∙ is_so, tt);
       }
 
-  dirty_at : (log : List Call) (journal : List Entry) (last : Laid) → AllByRecursion (IsFine S) log → ((d : ℕ) → has d S.targets ≡ true → Settled S d last (disk S log d))
+  dirty_at : (log : List Call) (journal : List Entry) (last : Laid) → AllByRecursion (IsFine S) log → HeldAtRest S last log
       → S.start.words.is_dirty last 0 ≡ true → IsDirty S.start log journal 0
-  dirty_at = durable_at (λ m. S.start.words.is_dirty m 0 ≡ true)
+  dirty_at = dirty_as true
 
   -- the same of each volume that is live: there is only volume 0
-  dirty_live : (log : List Call) (journal : List Entry) (last : Laid) → AllByRecursion (IsFine S) log → AreOurs journal → ((d : ℕ) → has d S.targets ≡ true → Settled S d last (disk S log d))
+  dirty_live : (log : List Call) (journal : List Entry) (last : Laid) → AllByRecursion (IsFine S) log → AreOurs journal → HeldAtRest S last log
       → (is_live 0 journal ≡ true → S.start.words.is_dirty last 0 ≡ true) → DirtyWhileLive S.start log journal
-  dirty_live log journal last fine ours settled dirty v alive = at (0 == v) refl
+  dirty_live log journal last fine ours held dirty v alive = at (0 == v) refl
     where
       at : (b : Bool) → (0 == v) ≡ b → IsDirty S.start log journal v
       at true is =
           let zero_is : 0 ≡ v = grind (arith, nat_tests, is) in
-          subst (IsDirty S.start log journal) zero_is (dirty_at log journal last fine settled (dirty (subst (λ z. is_live z journal ≡ true) (sym zero_is) alive)))
+          subst (IsDirty S.start log journal) zero_is (dirty_at log journal last fine held (dirty (subst (λ z. is_live z journal ≡ true) (sym zero_is) alive)))
       at false is = absurd (let dead : is_live v journal ≡ false = others_dead v is journal ours in cc (dead, alive))
 
 -- FRONTS OF A TURN'S ENTRIES
@@ -112,33 +116,32 @@ calm_turns S c got (gets k i left step d has need) = inr tt
 calm_turns S c got (acks k i left step answer has need) = inr ((λ b h. h), tt)
 
 -- while no round is going on, a turn's call leaves what the targets hold
-pub settled_of : (S : Setting) (last : Laid) (d : ℕ) (k : Disk) (phase : Phase) → phase ≡ Rest → StandsIn S last d k phase → Settled S d last k
-settled_of S last d k phase rest h = subst (StandsIn S last d k) rest h
+pub held_at_rest : (S : Setting) (last : Laid) (d : ℕ) (k : Disk) (phase : Phase) → phase ≡ Rest → Held S last d k phase → Held S last d k Rest
+held_at_rest S last d k phase rest h = subst (Held S last d k) rest h
 
 no_round : (p : Phase) (m : Laid) (step : Step) (left : List ℕ) → p ≡ Rest → p ≡ Going m step left → ⊥
 no_round Rest m step left a b = absurd cc
 no_round (Going x y z) m step left a b = absurd cc
 
 module _ (S : Setting) (volume : IsFirstVolume S) (log : List Call) (c : Control) (mine : Mine S c) (good : GoodRound S c.round) (stand : Stand S log c.round) (got : Sector) where
-  still_turns : {call : Option Call} {es : List Event} {next : Control} → Turns S c got call es next → c.round.phase ≡ Rest
-      → (d : ℕ) → has d S.targets ≡ true → Settled S d c.round.last (disk S (log_after log call) d)
-  still_turns nothing rest d target = settled_of S c.round.last d (disk S log d) c.round.phase rest (stand d target)
-  still_turns (fails e what asked) rest d target = settled_of S c.round.last d _ c.round.phase rest (stand_turns S volume log c mine good stand got (fails e what asked) d target)
+  still_turns : {call : Option Call} {es : List Event} {next : Control} → Turns S c got call es next → c.round.phase ≡ Rest → HeldAtRest S c.round.last (log_after log call)
+  still_turns nothing rest d target = held_at_rest S c.round.last d (disk S log d) c.round.phase rest (stand d target)
+  still_turns (fails e what asked) rest d target = held_at_rest S c.round.last d _ c.round.phase rest (stand_turns S volume log c mine good stand got (fails e what asked) d target)
   still_turns (anchors m e ds is) rest d target = absurd (no_round c.round.phase _ _ _ rest is)
   still_turns (settles m e f ds is) rest d target = absurd (no_round c.round.phase _ _ _ rest is)
   still_turns (ends m e is) rest d target = absurd (no_round c.round.phase _ _ _ rest is)
-  still_turns (begins e ds is some why) rest d target = settled_of S c.round.last d (disk S log d) c.round.phase rest (stand d target)
-  still_turns (readies is s t) rest d target = settled_of S c.round.last d (disk S log d) c.round.phase rest (stand d target)
-  still_turns (actives is s t r) rest d target = settled_of S c.round.last d (disk S log d) c.round.phase rest (stand d target)
-  still_turns (cleans is s t) rest d target = settled_of S c.round.last d (disk S log d) c.round.phase rest (stand d target)
-  still_turns (rests t calm) rest d target = settled_of S c.round.last d (disk S log d) c.round.phase rest (stand d target)
-  still_turns (pasts k i more there none) rest d target = settled_of S c.round.last d (disk S log d) c.round.phase rest (stand d target)
-  still_turns (asks_read k i more place there is w ready) rest d target = settled_of S c.round.last d (disk S log d) c.round.phase rest (stand d target)
-  still_turns (asks_write k i more place there is w ready) rest d target = settled_of S c.round.last d (disk S log d) c.round.phase rest (stand d target)
-  still_turns (puts k i left step e ds there need) rest d target = settled_of S c.round.last d _ c.round.phase rest (stand_turns S volume log c mine good stand got (puts k i left step e ds there need) d target)
-  still_turns (syncs k i left step e ds there need) rest d target = settled_of S c.round.last d _ c.round.phase rest (stand_turns S volume log c mine good stand got (syncs k i left step e ds there need) d target)
-  still_turns (gets k i left step e there need) rest d target = settled_of S c.round.last d _ c.round.phase rest (stand_turns S volume log c mine good stand got (gets k i left step e there need) d target)
-  still_turns (acks k i left step answer there need) rest d target = settled_of S c.round.last d (disk S log d) c.round.phase rest (stand d target)
+  still_turns (begins e ds is some why) rest d target = held_at_rest S c.round.last d (disk S log d) c.round.phase rest (stand d target)
+  still_turns (readies is s t) rest d target = held_at_rest S c.round.last d (disk S log d) c.round.phase rest (stand d target)
+  still_turns (actives is s t r) rest d target = held_at_rest S c.round.last d (disk S log d) c.round.phase rest (stand d target)
+  still_turns (cleans is s t) rest d target = held_at_rest S c.round.last d (disk S log d) c.round.phase rest (stand d target)
+  still_turns (rests t calm) rest d target = held_at_rest S c.round.last d (disk S log d) c.round.phase rest (stand d target)
+  still_turns (pasts k i more there none) rest d target = held_at_rest S c.round.last d (disk S log d) c.round.phase rest (stand d target)
+  still_turns (asks_read k i more place there is w ready) rest d target = held_at_rest S c.round.last d (disk S log d) c.round.phase rest (stand d target)
+  still_turns (asks_write k i more place there is w ready) rest d target = held_at_rest S c.round.last d (disk S log d) c.round.phase rest (stand d target)
+  still_turns (puts k i left step e ds there need) rest d target = held_at_rest S c.round.last d _ c.round.phase rest (stand_turns S volume log c mine good stand got (puts k i left step e ds there need) d target)
+  still_turns (syncs k i left step e ds there need) rest d target = held_at_rest S c.round.last d _ c.round.phase rest (stand_turns S volume log c mine good stand got (syncs k i left step e ds there need) d target)
+  still_turns (gets k i left step e there need) rest d target = held_at_rest S c.round.last d _ c.round.phase rest (stand_turns S volume log c mine good stand got (gets k i left step e there need) d target)
+  still_turns (acks k i left step answer there need) rest d target = held_at_rest S c.round.last d (disk S log d) c.round.phase rest (stand d target)
 
 -- ACKNOWLEDGED WRITES
 
@@ -210,8 +213,8 @@ actives_turn S on volume log c got n journal count fine stand (begins d ds is so
 actives_turn S on volume log c got n journal count fine stand (readies is s t) = (tt, tt)
 actives_turn S on volume log c got n journal count fine stand (actives is s t r) =
     let whole : take n log ≡ log = take_all n log (omega (arith, count)) in
-    let settled : (d : ℕ) → has d S.targets ≡ true → Settled S d c.round.last (disk S log d) = λ d target. settled_of S c.round.last d (disk S log d) c.round.phase is (stand d target) in
-    (subst (λ calls. IsDirty S.start calls journal 0) (sym whole) (dirty_at S on volume log journal c.round.last fine settled r), tt)
+    let held : HeldAtRest S c.round.last log = λ d target. held_at_rest S c.round.last d (disk S log d) c.round.phase is (stand d target) in
+    (subst (λ calls. IsDirty S.start calls journal 0) (sym whole) (dirty_at S on volume log journal c.round.last fine held r), tt)
 actives_turn S on volume log c got n journal count fine stand (cleans is s t) = (tt, tt)
 actives_turn S on volume log c got n journal count fine stand (rests t calm) = (tt, tt)
 actives_turn S on volume log c got n journal count fine stand (pasts k i more there none) = (tt, (tt, tt))
@@ -247,7 +250,7 @@ module _ (S : Setting) (asks : AsksFirst S) (renews : Renews S) (on : StandsOnAl
       let t = turns_of S c a in
       let ours : AreOurs (w.journal ++ p) = all_first (λ (e : Entry). IsOurs e.event) (w.journal ++ p) q (subst AreOurs (ap (λ z. w.journal ++ z) parts ∙ sym (append_assoc w.journal p q)) (ours_reached S (happens S w a) (goes r a))) in
       let fine = fine_reached S renews on volume (happens S w a) fits (goes r a) in
-      let still : c.round.phase ≡ Rest → (d : ℕ) → has d S.targets ≡ true → Settled S d c.round.last (disk S (happens S w a).log d) =
+      let still : c.round.phase ≡ Rest → HeldAtRest S c.round.last (happens S w a).log =
       still_turns S volume w.log c (mine_reached S w r) (good_reached S renews on w before r) (stand_reached S renews on volume w before r) (got_of a) t in
       elim (calm_turns S c (got_of a) t) [
         | inl over ↦ dirty_live S on volume (happens S w a).log (w.journal ++ p) c.round.last fine ours (still over.rest) (λ alive. over.dirty)

@@ -6,7 +6,7 @@ use Rattle.stage_machine.specs.Opens.{AsksFirst, StandsOnAll, IsFirstVolume}
 use Rattle.stage_machine.specs.Machine.{World, Reached}
 use Rattle.stage_machine.proofs.Targets.{stand_reached, disk}
 use Rattle.stage_machine.proofs.Finished.{fine_reached}
-use Rattle.gate_law.proofs.Gate.{durable_at, settled_of}
+use Rattle.gate_law.proofs.Gate.{dirty_as, held_at_rest}
 use Rattle.rest_law.specs.Rest.{CanEnd, IsAtRest, IsDurablyClean}
 use Rattle.rest_law.proofs.Halts.{ended}
 
@@ -14,5 +14,5 @@ pub durably_clean : (S : Setting) (w : World) → AsksFirst S → CanEnd S → R
     → IsDurablyClean S w
 durably_clean S w asks can renews on volume fits r alive rest =
     let end = ended S asks can w r alive rest in
-    durable_at S on volume (λ m. S.start.words.is_dirty m 0 ≡ false) w.log w.journal w.control.round.last (fine_reached S renews on volume w fits r)
-    (λ d target. settled_of S w.control.round.last d (disk S w.log d) w.control.round.phase end.no_round (stand_reached S renews on volume w fits r d target)) end.clean
+    dirty_as S on volume false w.log w.journal w.control.round.last (fine_reached S renews on volume w fits r)
+    (λ d target. held_at_rest S w.control.round.last d (disk S w.log d) w.control.round.phase end.no_round (stand_reached S renews on volume w fits r d target)) end.clean

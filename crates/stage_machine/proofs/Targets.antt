@@ -1,5 +1,5 @@
 -- What all targets hold, from turn to turn.
-use Rattle.std.proofs.Common.{◌≡◌, ℕ, ◌+◌, ◌≤◌, ◌==◌, Bool, true, false, List, [], ◌∷◌, ◌++◌, refl, ap, sym, ◌∙◌, subst, arith, inl, Option}
+use Rattle.std.proofs.Common.{◌≡◌, ℕ, ◌+◌, ◌-◌, ◌≤◌, ◌==◌, Bool, true, false, List, [], ◌∷◌, ◌++◌, refl, ap, sym, ◌∙◌, subst, arith, inl, Option}
 use Rattle.std.specs.Prelude.{⊤}
 use Rattle.std.proofs.lemmas.Bool.Decides.{nat_tests}
 use Rattle.imsm_base.specs.declared.units.Sector.{Sector}
@@ -9,10 +9,10 @@ use Rattle.device_log.specs.Log.{Call, What, Write, Sync}
 use Rattle.device_log.specs.Cells.{resting}
 use Rattle.array_model.specs.declared.journal.Event.{Event}
 use Rattle.array_model.specs.Blocks.{Laid}
-use Rattle.array_model.specs.Candidates.{Disk, disk_after, opened, opened_with}
+use Rattle.array_model.specs.Candidates.{Disk, standing, standing_from, disk_after, opened, opened_with}
 use Rattle.array_model.specs.Renewal.{FitsGeneration}
 use Rattle.stage_machine.specs.Setting.{Setting, Renews, has}
-use Rattle.stage_machine.specs.Opens.{StandsOnAll, IsFirstVolume}
+use Rattle.stage_machine.specs.Opens.{SaysAll, StandsOnAll, IsFirstVolume}
 use Rattle.stage_machine.specs.Rounds.{Step, AtAnchor, AtSync, Phase, Rest, Going, Round}
 use Rattle.stage_machine.specs.Jobs.{JobStep, Busy, Writes, the_shape, row_at, value_at}
 use Rattle.stage_machine.specs.Machine.{Control, need_now, World, Reached, opens, goes, got_of, log_after}
@@ -41,9 +41,34 @@ StandsIn S last d k (Going m step left) = GoingIn S last m d k left step
 abbrev pub disk : Setting → List Call → ℕ → Disk
 disk S log d = disk_after S.start.words S.start.disks log d
 
--- each target holds what the place of the round says
+-- a disk holds what the place of the round says, with a block of its own for that of the last finished round: before the
+-- first round these may differ behind their ends
+pub record Held (S : Setting) (last : Laid) (d : ℕ) (k : Disk) (phase : Phase) : Type 0 where
+  pub block : Laid
+  pub says : SaysAll S.start.words block last
+  pub alone : IsAlone S.start.words block
+  pub stands : StandsIn S block d k phase
+
+-- each target does
 abbrev pub Stand : Setting → List Call → Round → Type 0
-Stand S log r = (d : ℕ) → has d S.targets ≡ true → StandsIn S r.last d (disk S log d) r.phase
+Stand S log r = (d : ℕ) → has d S.targets ≡ true → Held S r.last d (disk S log d) r.phase
+
+says_itself : (S : Setting) (m : Laid) → SaysAll S.start.words m m
+says_itself S m = record {
+  extra = refl;
+  generation = refl;
+  dirty = λ v. refl;
+  same = record { container = refl; expects = λ serial. refl; is_supported = λ v. refl; pass = λ v. refl; slots = λ v. refl };
+  whole = λ serial sectors. refl;
+}
+
+-- the block of a round that has ended
+held_alone : (S : Setting) (m : Laid) (d : ℕ) (k : Disk) → IsAlone S.start.words m → Settled S d m k → Held S m d k Rest
+held_alone S m d k alone settled = record { block = m; says = says_itself S m; alone = alone; stands = settled }
+
+-- the same block at another place of the round
+held_by : (S : Setting) (last : Laid) (d : ℕ) (k l : Disk) (p q : Phase) (h : Held S last d k p) → StandsIn S h.block d l q → Held S last d l q
+held_by S last d k l p q h stands = record { block = h.block; says = h.says; alone = h.alone; stands = stands }
 
 -- A CALL ON ONE DISK
 
@@ -116,8 +141,8 @@ module _ (S : Setting) (volume : IsFirstVolume S) (log : List Call) (c : Control
   -- a call at a row of disk e
   stand_row : (e : ℕ) (what : What) (went : Bool) → RowCall S e what → Stand S (log ++ call e what went ∷ []) c.round
   stand_row e what went row d target =
-      lift S (λ k. StandsIn S c.round.last d k c.round.phase) (λ k. StandsIn S c.round.last d k c.round.phase) log e d what went (stand d target)
-      (λ here k h. row_stays S c.round.last d k c.round.phase what went good.last.alone alone_of (subst (λ z. RowCall S z what) here row) h)
+      lift S (λ k. Held S c.round.last d k c.round.phase) (λ k. Held S c.round.last d k c.round.phase) log e d what went (stand d target)
+      (λ here k h. held_by S c.round.last d k _ c.round.phase c.round.phase h (row_stays S h.block d k c.round.phase what went h.alone alone_of (subst (λ z. RowCall S z what) here row) h.stands))
       (λ other k h. h)
 
   stand_put : (k i : ℕ) (left : List ℕ) (step : JobStep) (e : ℕ) (ds : List ℕ) (stored : ℕ) (went : Bool) → Has c k left (Busy i step) → need_now S c k i step ≡ Writes e ds
@@ -127,18 +152,25 @@ module _ (S : Setting) (volume : IsFirstVolume S) (log : List Call) (c : Control
       let member = (subst (NeedIn S.members) need (need_in S c k i step job.inside)).0 in
       stand_row e _ went (row_write _ stored _ (row_inside S volume c k i left step e mine has member))
 
-  -- an anchor fails
+  -- what a target holds while a round is going on
+  held_going : (m : Laid) (step : Step) (left : List ℕ) → c.round.phase ≡ Going m step left → (d : ℕ) → has d S.targets ≡ true → Held S c.round.last d (disk S log d) (Going m step left)
+  held_going m step left is d target = subst (Held S c.round.last d (disk S log d)) is (stand d target)
+
+  -- an anchor is written, gone through or not
   stand_anchor : (m : Laid) (e : ℕ) (ds : List ℕ) (stored : ℕ) (went : Bool) → c.round.phase ≡ Going m AtAnchor (e ∷ ds)
       → (d : ℕ) → has d S.targets ≡ true
-      → Under S c.round.last m d (disk S (log ++ call e (Write (anchor_place (S.start.disks.sectors e)) (m.anchor ∷ []) stored) went ∷ []) d) (e ∷ ds)
-  stand_anchor m e ds stored went is d target =
-      lift S (λ k. Under S c.round.last m d k (e ∷ ds)) (λ k. Under S c.round.last m d k (e ∷ ds)) log e d _ went (subst (StandsIn S c.round.last d (disk S log d)) is (stand d target))
-      (λ here k h. subst (λ z. Under S c.round.last m d (after S d k (Write (anchor_place (S.start.disks.sectors z)) (m.anchor ∷ []) stored) went) (e ∷ ds)) (sym here) (record {
-        mixed = mixed_anchor S d c.round.last m k stored went (enough d target) (alone_of m AtAnchor (e ∷ ds) is) h.mixed;
+      → Held S c.round.last d (disk S (log ++ call e (Write (anchor_place (S.start.disks.sectors e)) (m.anchor ∷ []) stored) went ∷ []) d) (Going m AtAnchor (e ∷ ds))
+  stand_anchor m e ds stored went is d target = held_by S c.round.last d (disk S log d) _ (Going m AtAnchor (e ∷ ds)) (Going m AtAnchor (e ∷ ds)) held (
+      lift S (λ k. Under S held.block m d k (e ∷ ds)) (λ k. Under S held.block m d k (e ∷ ds)) log e d _ went held.stands
+      (λ here k h. subst (λ z. Under S held.block m d (after S d k (Write (anchor_place (S.start.disks.sectors z)) (m.anchor ∷ []) stored) went) (e ∷ ds)) (sym here) (record {
+        mixed = mixed_anchor S d held.block m k stored went (enough d target) (alone_of m AtAnchor (e ∷ ds) is) h.mixed;
         done = λ out. absurd (first_in e d ds here out);
       }))
-      (λ other k h. h)
+      (λ other k h. h))
     where
+      held : Held S c.round.last d (disk S log d) (Going m AtAnchor (e ∷ ds))
+      held = held_going m AtAnchor (e ∷ ds) is d target
+
       first_in : (e d : ℕ) (ds : List ℕ) → e ≡ d → has d (e ∷ ds) ≡ false → ⊥
       first_in e d ds here out = let is : (e == d) ≡ true = grind (arith, nat_tests, here) in absurd (let yes_in : has d (e ∷ ds) ≡ true = rw is refl in cc (yes_in, out))
 
@@ -152,18 +184,20 @@ module _ (S : Setting) (volume : IsFirstVolume S) (log : List Call) (c : Control
 
   -- the sync of the first target that is left
   stand_synced : (m : Laid) (e : ℕ) (ds : List ℕ) → c.round.phase ≡ Going m AtSync (e ∷ ds)
-      → (d : ℕ) → has d S.targets ≡ true → Under S c.round.last m d (disk S (log ++ call e Sync true ∷ []) d) ds
+      → (d : ℕ) → has d S.targets ≡ true → Held S c.round.last d (disk S (log ++ call e Sync true ∷ []) d) (Going m AtAnchor ds)
   stand_synced m e ds is d target =
       let it = going_good S c.round m AtSync (e ∷ ds) good is in
-      lift S (λ k. GoingIn S c.round.last m d k (e ∷ ds) AtSync) (λ k. Under S c.round.last m d k ds) log e d Sync true (subst (StandsIn S c.round.last d (disk S log d)) is (stand d target))
-      (λ here k h. let settled = synced_settled S d m k it.alone (it.whole d target) (h.1 here) in record { mixed = mixed_of S d c.round.last m (after S d k Sync true) settled; done = λ out. settled })
-      (λ other k h. record { mixed = h.0.mixed; done = λ out. h.0.done (rw other out) })
+      let held = held_going m AtSync (e ∷ ds) is d target in
+      held_by S c.round.last d (disk S log d) _ (Going m AtSync (e ∷ ds)) (Going m AtAnchor ds) held (
+      lift S (λ k. GoingIn S held.block m d k (e ∷ ds) AtSync) (λ k. Under S held.block m d k ds) log e d Sync true held.stands
+      (λ here k h. let settled = synced_settled S d m k it.alone (it.whole d target) (h.1 here) in record { mixed = mixed_of S d held.block m (after S d k Sync true) settled; done = λ out. settled })
+      (λ other k h. record { mixed = h.0.mixed; done = λ out. h.0.done (rw other out) }))
 
   stand_settle : (m : Laid) (e : ℕ) (ds : List ℕ) → c.round.phase ≡ Going m AtSync (e ∷ ds) → Stand S (log ++ call e Sync false ∷ []) c.round
   stand_settle m e ds is = stand_row e Sync false row_sync
 
   stand_fails : (e : ℕ) (what : What) → Asked S c e what → Stand S (log ++ call e what false ∷ []) c.round
-  stand_fails _ _ (anchor m d ds stored is) = λ x target. subst (StandsIn S c.round.last x _) (sym is) (stand_anchor m d ds stored false is x target)
+  stand_fails _ _ (anchor m d ds stored is) = λ x target. subst (Held S c.round.last x _) (sym is) (stand_anchor m d ds stored false is x target)
   stand_fails _ _ (settle m d ds is) = stand_row d Sync false row_sync
   stand_fails _ _ (put k i left step d ds stored has need) = stand_put k i left step d ds stored false has need
   stand_fails _ _ (sync k i left step d ds has need) = stand_row d Sync false row_sync
@@ -173,13 +207,16 @@ module _ (S : Setting) (volume : IsFirstVolume S) (log : List Call) (c : Control
   pub stand_turns : (got : Sector) {call : Option Call} {es : List Event} {next : Control} → Turns S c got call es next → Stand S (log_after log call) next.round
   stand_turns got nothing = stand
   stand_turns got (fails d what asked) = stand_fails d what asked
-  stand_turns got (anchors m d ds is) = λ x target. (stand_anchor m d ds 1 true is x target, stand_anchored m d ds is x target)
+  stand_turns got (anchors m d ds is) = λ x target.
+      let held = stand_anchor m d ds 1 true is x target in
+      held_by S c.round.last x _ _ (Going m AtAnchor (d ∷ ds)) (Going m AtSync (d ∷ ds)) held (held.stands, stand_anchored m d ds is x target)
   stand_turns got (settles m d e ds is) = stand_synced m d (e ∷ ds) is
-  stand_turns got (ends m d is) = λ x target. (stand_synced m d [] is x target).done refl
+  stand_turns got (ends m d is) = λ x target.
+      held_alone S m x _ (alone_of m AtSync (d ∷ []) is) ((stand_synced m d [] is x target).stands.done refl)
   stand_turns got (begins d ds is some why) = λ x target.
-      let settled = subst (StandsIn S c.round.last x (disk S log x)) is (stand x target) in
+      let held = subst (Held S c.round.last x (disk S log x)) is (stand x target) in
       let inside : has x (d ∷ ds) ≡ true = subst (λ z. has x z ≡ true) some (subst (λ z. has x z ≡ true) (sym good.working) target) in
-      record { mixed = mixed_last S x c.round.last _ (disk S log x) settled; done = λ out. absurd (cc (inside, out)) }
+      held_by S c.round.last x (disk S log x) (disk S log x) Rest (Going _ AtAnchor (d ∷ ds)) held (record { mixed = mixed_last S x held.block _ (disk S log x) held.stands; done = λ out. absurd (cc (inside, out)) })
   stand_turns got (readies is s t) = stand
   stand_turns got (actives is s t r) = stand
   stand_turns got (cleans is s t) = stand
@@ -192,16 +229,33 @@ module _ (S : Setting) (volume : IsFirstVolume S) (log : List Call) (c : Control
   stand_turns got (gets k i left step d has need) = stand_row d _ true (row_read _)
   stand_turns got (acks k i left step answer has need) = stand
 
--- at opening
-opened_settled : (S : Setting) → StandsOnAll S → (d : ℕ) → has d S.targets ≡ true → Settled S d S.start.newest (opened S.start.words S.start.disks d)
-opened_settled S on d target = subst (Settled S d S.start.newest) (sym known) (record { candidates = refl; stands = ap (λ (x : Laid). x.anchor) (on.stands d target); known = inl refl })
+-- what stood on a disk at opening
+abbrev first_block : Setting → ℕ → Laid
+first_block S d = standing S.start.words (S.start.disks.sectors d) (λ p. resting (S.start.disks.opening d p))
+
+first_alone : (S : Setting) → StandsOnAll S → (d : ℕ) → has d S.targets ≡ true → IsAlone S.start.words (first_block S d)
+first_alone S on d target =
+    let none = (on.stands d target).extra ∙ on.alone in
+    record {
+      extra = none;
+      short = ap (λ n. standing_from (λ p. resting (S.start.disks.opening d p)) (anchor_place (S.start.disks.sectors d) - n) n) none;
+    }
+
+opened_held : (S : Setting) → StandsOnAll S → (d : ℕ) → has d S.targets ≡ true → Held S S.start.newest d (opened S.start.words S.start.disks d) Rest
+opened_held S on d target = record {
+  block = first_block S d;
+  says = on.stands d target;
+  alone = first_alone S on d target;
+  stands = subst (Settled S d (first_block S d)) (sym known) (record { candidates = refl; stands = refl; known = inl refl });
+}
   where
-    known : opened S.start.words S.start.disks d ≡ opened_with S.start.words (λ p. resting (S.start.disks.opening d p)) S.start.newest true
-    known = ap (λ m. opened_with S.start.words (λ p. resting (S.start.disks.opening d p)) m (S.start.words.is_whole (S.start.disks.serial d) (S.start.disks.sectors d) m)) (on.stands d target)
-        ∙ ap (opened_with S.start.words (λ p. resting (S.start.disks.opening d p)) S.start.newest) (on.whole d target)
+    known : opened S.start.words S.start.disks d ≡ opened_with S.start.words (λ p. resting (S.start.disks.opening d p)) (first_block S d) true
+    known = ap (opened_with S.start.words (λ p. resting (S.start.disks.opening d p)) (first_block S d)) (
+        (on.stands d target).whole (S.start.disks.serial d) (S.start.disks.sectors d) ∙ on.whole d target
+        )
 
 pub stand_reached : (S : Setting) → Renews S → StandsOnAll S → IsFirstVolume S → (w : World) → FitsGeneration w.control.round.note → Reached S w → Stand S w.log w.control.round
-stand_reached S renews on volume w fits opens = opened_settled S on
+stand_reached S renews on volume w fits opens = opened_held S on
 stand_reached S renews on volume w fits (goes {w = v} r a) =
     let before = fitted S v a fits in
     stand_turns S volume v.log v.control (mine_reached S v r) (good_reached S renews on v before r) (stand_reached S renews on volume v before r) (got_of a) (turns_of S v.control a)

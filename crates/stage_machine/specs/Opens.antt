@@ -1,15 +1,16 @@
 -- How a run of the machine opens: the first form of a container, of one clean volume of two copies. Source: this
 -- project's own.
-use Rattle.std.specs.Prelude.{◌≡◌, ℕ, ◌+◌, ◌<◌, ◌≤◌, true, false, [], Some, ⊤}
+use Rattle.std.specs.Prelude.{◌≡◌, ℕ, ◌+◌, ◌<◌, ◌≤◌, true, false, List, [], Some, ⊤}
 use Rattle.std.specs.List.{AllByRecursion}
 use Rattle.imsm_base.specs.declared.bounds.TheConstants.{METADATA_SECTORS}
 use Rattle.imsm_base.specs.declared.units.Level.TheVariants.{One}
 use Rattle.device_log.specs.Cells.{resting}
 use Rattle.array_model.specs.declared.script.OpKind.{OpKind}
 use Rattle.array_model.specs.declared.script.OpKind.TheVariants.{Write as OpWrite, Read as OpRead, Whole as OpWhole}
-use Rattle.array_model.specs.Blocks.{is_container}
+use Rattle.array_model.specs.Blocks.{Laid, Words, is_container}
 use Rattle.array_model.specs.Candidates.{standing}
 use Rattle.array_model.specs.FailureLaw.{HasInSlot}
+use Rattle.array_model.specs.Renewal.{SaysSame}
 use Rattle.stage_machine.specs.Setting.{Setting, has}
 use Rattle.stage_machine.specs.Jobs.{the_shape}
 
@@ -24,14 +25,24 @@ pub record AsksFirst (S : Setting) : Type 0 where
   pub clients : AllByRecursion (λ op. op.client < 16) S.asked.ops
   pub volumes : AllByRecursion (λ op. IsInFirst op.kind) S.asked.ops
 
--- the newest block is a container's and stands on each disk that it expects, in one sector, and is whole there
+-- A block says all that another says to a run: of members and volumes, of dirty bits, of its generation, of how many
+-- sectors it has, and of where it is whole. The bytes behind its end are none of this.
+pub record SaysAll (W : Words) (a b : Laid) : Type 0 where
+  pub extra : W.extra a.anchor ≡ W.extra b.anchor
+  pub generation : W.generation a.anchor ≡ W.generation b.anchor
+  pub dirty : (v : ℕ) → W.is_dirty a v ≡ W.is_dirty b v
+  pub same : SaysSame W a b
+  pub whole : (serial : List ℕ) (sectors : ℕ) → W.is_whole serial sectors a ≡ W.is_whole serial sectors b
+
+-- The newest block is a container's and has one sector. On each disk that it expects it is whole, and what stands there
+-- says all that it says, each with bytes of its own behind.
 pub record StandsOnAll (S : Setting) : Type 0 where
   pub container : is_container S.start.words S.start.newest ≡ true
   pub alone : S.start.words.extra S.start.newest.anchor ≡ 0
   pub short : S.start.newest.extended ≡ []
   pub expected : (d : ℕ) → S.start.words.expects S.start.newest (S.start.disks.serial d) ≡ has d S.targets
   pub stands : (d : ℕ) → has d S.targets ≡ true
-      → standing S.start.words (S.start.disks.sectors d) (λ p. resting (S.start.disks.opening d p)) ≡ S.start.newest
+      → SaysAll S.start.words (standing S.start.words (S.start.disks.sectors d) (λ p. resting (S.start.disks.opening d p))) S.start.newest
   pub whole : (d : ℕ) → has d S.targets ≡ true
       → S.start.words.is_whole (S.start.disks.serial d) (S.start.disks.sectors d) S.start.newest ≡ true
 
