@@ -9,7 +9,7 @@ ghost use Rattle.image_replay.specs.Lines.{failed_member_line};
 
 use array_model::Entry;
 use image_outside::{Sink, write_all};
-use image_verdict::{digit, is_plain, name_bytes};
+use image_verdict::{digits_of, is_plain, name_bytes};
 use imsm_base::Serial;
 use journal_text::line_of;
 use member_bank::Failed;
@@ -35,7 +35,8 @@ fn write_escaped<K: Sink>(sink: &mut K, byte: u8) -> Result<(), Failed>
     if is_plain(byte) {
         write_all(sink, &[byte])
     } else {
-        write_all(sink, &[b'\\', b'x', digit(byte / 16), digit(byte % 16)])
+        write_all(sink, b"\\x")?;
+        write_all(sink, &digits_of(byte))
     }
 }
 
