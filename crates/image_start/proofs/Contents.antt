@@ -12,8 +12,8 @@ use Rattle.array_model.specs.Meaning.{has_serial}
 use Rattle.control_state.specs.Seen.{no_sector}
 use Rattle.first_opening.specs.Opened.{IsOpening, block_of, serial_at}
 use Rattle.image_verdict.specs.declared.images.ImageRead.{ImageRead}
-use Rattle.image_verdict.specs.Reports.{Holds, bytes_of_all, first_block, serials_of_all}
-use Rattle.image_start.specs.Starts.{IsStarted, StandIn, Starts, sizes_of_all}
+use Rattle.image_verdict.specs.Reports.{Holds, bytes_of_all, first_block, serials_of_all, sizes_of_all}
+use Rattle.image_start.specs.Starts.{IsStarted, StandIn, Starts}
 use Rattle.image_start.specs.Openings.{first_anchor, opened_on}
 use Rattle.image_start.proofs.Images.{IsAt, IsFirst, IsRead, all-hold, all-there, are-apart, first-image, holds-at, image-at, is-read, length-serials, none-absent}
 

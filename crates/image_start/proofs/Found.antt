@@ -30,8 +30,8 @@ use Rattle.first_opening.proofs.Found.{bytes-are, found, target-below, targets-a
 use Rattle.first_opening.proofs.Volume.{ArePair, IsMirror, in-volume, mirror, pair, room-on, rows-are, the-volume}
 use Rattle.stage.specs.Runs.{FitsDisks}
 use Rattle.image_verdict.specs.declared.images.ImageRead.{ImageRead}
-use Rattle.image_verdict.specs.Reports.{absent, first_block, is_there}
-use Rattle.image_start.specs.Starts.{Starts, sizes_of_all}
+use Rattle.image_verdict.specs.Reports.{absent, first_block, is_there, sizes_of_all}
+use Rattle.image_start.specs.Starts.{Starts}
 use Rattle.image_start.specs.Openings.{IsMirrorShape, first_anchor, first_shape, opened_on}
 use Rattle.image_start.proofs.Images.{length-serials, length-sizes, none-absent, none-left}
 use Rattle.image_start.proofs.Contents.{a-bank, block-is, contents_of}

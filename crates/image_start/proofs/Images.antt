@@ -13,8 +13,8 @@ use Rattle.imsm_codec.specs.Given.{given_block}
 use Rattle.array_model.specs.Meaning.{has_serial}
 use Rattle.control_state.specs.Seen.{no_sector}
 use Rattle.image_verdict.specs.declared.images.ImageRead.{ImageRead}
-use Rattle.image_verdict.specs.Reports.{Holds, absent, anchor_block, bytes_of_all, first_block, is_there, serials_of_all}
-use Rattle.image_start.specs.Starts.{AreDistinct, IsStarted, sizes_of_all}
+use Rattle.image_verdict.specs.Reports.{Holds, absent, anchor_block, bytes_of_all, first_block, is_there, serials_of_all, sizes_of_all}
+use Rattle.image_start.specs.Starts.{AreDistinct, IsStarted}
 use Rattle.image_start.specs.Openings.{anchor_read, first_anchor}
 
 -- AN IMAGE OF A NUMBER

@@ -10,8 +10,7 @@ use Rattle.control_state.specs.Seen.{numbers, no_sector}
 use Rattle.first_opening.specs.Opened.{Opened, block_of, newest_of, targets_of, members_of}
 use Rattle.stage.specs.declared.open.Opening.{Opening}
 use Rattle.image_verdict.specs.declared.images.ImageRead.{ImageRead}
-use Rattle.image_verdict.specs.Reports.{bytes_of_all, serials_of_all}
-use Rattle.image_start.specs.Starts.{sizes_of_all}
+use Rattle.image_verdict.specs.Reports.{bytes_of_all, serials_of_all, sizes_of_all}
 
 -- the anchor of an image, where it was read
 abbrev pub anchor_read : Option ImageRead → Sector

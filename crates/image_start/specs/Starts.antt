@@ -8,7 +8,7 @@ use Rattle.imsm_base.specs.declared.units.Serial.{Serial}
 use Rattle.imsm_base.specs.Whole.{anchor_place}
 use Rattle.image_verdict.specs.declared.images.ImageRead.{ImageRead}
 use Rattle.image_verdict.specs.declared.report.Report.TheVariants.{Started}
-use Rattle.image_verdict.specs.Reports.{IsReport, serials_of_all}
+use Rattle.image_verdict.specs.Reports.{IsReport, serials_of_all, sizes_of_all}
 
 -- the report on the images is that their volume starts
 pub record IsStarted (images : List ImageRead) : Type 0 where
@@ -27,9 +27,6 @@ pub record Starts (images : List ImageRead) : Type 0 where
   pub few : length images ≤ MAX_DISKS
   pub distinct : AreDistinct images
   pub started : IsStarted images
-
-abbrev pub sizes_of_all : List ImageRead → List ℕ
-sizes_of_all images = map (λ (i : ImageRead). i.sectors) images
 
 -- disks with these sectors have the images' sizes, and at the place of each image's anchor stands what was read there
 pub record StandIn (images : List ImageRead) (contents : List (List Sector)) : Type 0 where

@@ -1,3 +1,4 @@
+pub mod Counted
 pub mod Trimmed
 pub mod Pieces
 pub mod Reading

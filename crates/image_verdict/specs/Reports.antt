@@ -67,6 +67,9 @@ bytes_of_all serials = map (λ (s : Serial). s.0) serials
 abbrev pub serials_of_all : List ImageRead → List Serial
 serials_of_all images = map (λ (i : ImageRead). i.serial) images
 
+abbrev pub sizes_of_all : List ImageRead → List ℕ
+sizes_of_all images = map (λ (i : ImageRead). i.sectors) images
+
 -- the report on images that are to hold a block: the first that doesn't; or the disks of its table that are absent; or
 -- that none is absent, and which are there
 abbrev pub IsReportOf : List ℕ → List ImageRead → Report → Type 0

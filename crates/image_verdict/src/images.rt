@@ -7,6 +7,7 @@ ghost use Rattle.device_log.specs.Log.{Call};
 ghost use Rattle.member_bank.specs.Told.{Keeps, Logs, LogsAll, Gives};
 ghost use Rattle.image_outside.specs.Outside.{OnlyReads};
 ghost use Rattle.image_verdict.specs.Images.{anchor_calls, images_told};
+ghost use Rattle.image_verdict.specs.Reports.{serials_of_all, sizes_of_all};
 
 use imsm_base::{DiskNo, MAX_DISKS, METADATA_SECTORS, Sector, Serial};
 use member_bank::Bank;
@@ -67,6 +68,8 @@ pub fn read_images<B: Bank>(alloc: Global, bank: &mut B) -> Result<Vec<ImageRead
     ensures reads { IfSome (B.log bank.new) OnlyReads }
     ensures count { IfOk result (λ images. length images.items ≡ length (B.serials bank.old)) }
     ensures few { IfOk result (λ images. length images.items ≤ MAX_DISKS) }
+    ensures named { IfOk result (λ images. serials_of_all images.items ≡ B.serials bank.old) }
+    ensures sized { IfOk result (λ images. sizes_of_all images.items ≡ B.sizes bank.old) }
     ensures told { IfOk result (λ images. IfSome (B.opening bank.new) (λ opening. IfSome (B.log bank.new) (λ log.
         images.items ≡ images_told (B.serials bank.old) (B.sizes bank.old) opening log))) }
     ensures sizes { B.sizes bank.new ≡ B.sizes bank.old }

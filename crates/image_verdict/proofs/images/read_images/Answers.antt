@@ -1,5 +1,6 @@
 use Rattle.std.proofs.Common.{◌∙◌, ◌∷◌, ◌++◌, [], refl, arith}
 use Rattle.std.proofs.lemmas.Grind.{common_steps}
+use Rattle.image_verdict.proofs.Counted.{named_more, sized_more}
 use Rattle.image_verdict.proofs.Reading.{are_read_next, reads_of}
 use Rattle.image_verdict.proofs.images.read_images.Goals as goal
 
@@ -13,6 +14,8 @@ loop-d-preserved g c =
           c.loop-d.d c.loop-d.images.items c.push.new.self.items c.read_image.result c.loop-d.invariant.read c.loop-d.invariant.serials c.loop-d.invariant.sizes
           c.read_image.ensures.opening c.read_image.ensures.logs c.read_image.ensures.gives c.read_image.ensures.small c.read_image.ensures.serial c.read_image.ensures.sectors
           c.in_ok-push.ensures.items;
+      named = named_more (B.serials c.args.bank.now) (B.serials before) c.loop-d.d c.loop-d.images.items c.push.new.self.items c.read_image.result c.loop-d.invariant.named c.loop-d.invariant.serials c.read_image.ensures.serial c.in_ok-push.ensures.items;
+      sized = sized_more (B.sizes c.args.bank.now) (B.sizes before) c.loop-d.d c.loop-d.images.items c.push.new.self.items c.read_image.result c.loop-d.invariant.sized c.loop-d.invariant.sizes (omega (arith, c.loop-d-test.true, c.disks-count.ensures.count)) c.read_image.ensures.sectors c.in_ok-push.ensures.items;
       count = grind (arith, common_steps);
       sizes = c.read_image.ensures.sizes ∙ c.loop-d.invariant.sizes;
       serials = c.read_image.ensures.serials ∙ c.loop-d.invariant.serials;
