@@ -1,1 +1,1 @@
-mod Failures
+pub mod Failures

@@ -1,8 +1,9 @@
 -- The lines of a report. Source: this project's own.
-use Rattle.std.specs.Prelude.{ℕ, ◌+◌, ◌/◌, ◌%◌, ◌==◌, ◌&&◌, nat_lt, nat_le, not, Bool, if◌then◌else◌, List, [], ◌∷◌, ◌++◌, codes}
+use Rattle.std.specs.Prelude.{ℕ, ◌==◌, ◌&&◌, nat_le, not, Bool, if◌then◌else◌, List, [], ◌∷◌, ◌++◌, codes}
 use Rattle.std.specs.Int.{to_be_bytes, w32}
 use Rattle.std.specs.List.{flat_map, list_all}
 use Rattle.std.specs.Fmt.{decimal}
+use Rattle.hex.specs.Hex.{encode_lower}
 use Rattle.imsm_base.specs.declared.units.Serial.{Serial}
 use Rattle.image_verdict.specs.declared.report.Report.{Report}
 use Rattle.image_verdict.specs.declared.report.Report.TheVariants.{Unbuilt, Waiting, Started}
@@ -10,15 +11,12 @@ use Rattle.image_verdict.specs.declared.report.Report.TheVariants.{Unbuilt, Wait
 abbrev pub line_feed : List ℕ
 line_feed = 0x0a ∷ []
 
-abbrev pub hex_digit : ℕ → ℕ
-hex_digit d = if nat_lt d 10 then 0x30 + d else 0x57 + d
-
 -- a byte as two digits, and a number of four bytes as eight
 abbrev pub hex_byte : ℕ → List ℕ
-hex_byte b = hex_digit (b / 16) ∷ hex_digit (b % 16) ∷ []
+hex_byte b = encode_lower (b ∷ [])
 
 abbrev pub hex_number : ℕ → List ℕ
-hex_number n = flat_map hex_byte (to_be_bytes w32 n)
+hex_number n = encode_lower (to_be_bytes w32 n)
 
 -- a byte as it is printed: as it is, or as `\x` and two digits
 abbrev pub is_printed : ℕ → Bool

@@ -1,53 +1,35 @@
 //! The lines of a report.
-ghost use Rattle.std.specs.Prelude.{◌≡◌, ◌++◌, ◌∷◌, [], ◌^◌, ◌<◌, ◌≤◌, length, IfOk, OnOk};
+ghost use Rattle.std.specs.Prelude.{◌≡◌, ◌++◌, ◌∷◌, [], ◌≤◌, length, IfOk, OnOk};
 ghost use Rattle.std.specs.List.{flat_map};
 ghost use Rattle.std.specs.Fmt.{decimal};
-ghost use Rattle.image_verdict.specs.Text.{hex_byte, hex_number, hex_digit, escaped, escaped_all, is_printed, without_zeros, serial_text, family_line, unbuilt_line, absent_line, member_line, started_text, waiting_text, report_text};
+ghost use Rattle.image_verdict.specs.Text.{hex_byte, hex_number, escaped, escaped_all, is_printed, without_zeros, serial_text, family_line, unbuilt_line, absent_line, member_line, started_text, waiting_text, report_text};
 
 use crate::report::Report;
 use imsm_base::Serial;
+use itoa::Buffer;
 use std::alloc::{AllocError, Global};
-
-fn digit(value: u8) -> u8
-    requires { value < 16 }
-    ensures { result ≡ hex_digit value }
-{
-    if value < 10 {
-        b'0' + value
-    } else {
-        b'a' - 10 + value
-    }
-}
-
-fn push_hex_byte(out: &mut Vec<u8>, byte: u8) -> Result<(), AllocError>
-    ensures { OnOk result (out.new.items ≡ out.old.items ++ hex_byte byte) }
-{
-    out.push(digit(byte / 16))?;
-    out.push(digit(byte % 16))?;
-    Ok(())
-}
-
-fn push_hex(out: &mut Vec<u8>, bytes: &[u8]) -> Result<(), AllocError>
-    ensures { OnOk result (out.new.items ≡ out.old.items ++ flat_map hex_byte bytes.now) }
-{
-    for byte in bytes {
-        push_hex_byte(out, *byte)?;
-    }
-    Ok(())
-}
 
 /// Appends a number as eight hexadecimal digits.
 fn push_hex_number(out: &mut Vec<u8>, value: u32) -> Result<(), AllocError>
     ensures { OnOk result (out.new.items ≡ out.old.items ++ hex_number value) }
 {
-    push_hex(out, &value.to_be_bytes())
+    let mut digits = [0; 8];
+    hex::encode_to_slice(value.to_be_bytes(), &mut digits).unwrap();
+    out.extend_from_slice(&digits)
 }
 
-fn push_number(alloc: Global, out: &mut Vec<u8>, value: u32) -> Result<(), AllocError>
+fn push_number(out: &mut Vec<u8>, value: u32) -> Result<(), AllocError>
     ensures { OnOk result (out.new.items ≡ out.old.items ++ decimal value) }
 {
-    let text = format!(in alloc; "{value}")?;
-    out.extend_from_slice(text.as_bytes())
+    out.extend_from_slice(Buffer::new().format(value).as_bytes())
+}
+
+fn push_hex_byte(out: &mut Vec<u8>, byte: u8) -> Result<(), AllocError>
+    ensures { OnOk result (out.new.items ≡ out.old.items ++ hex_byte byte) }
+{
+    let mut digits = [0; 2];
+    hex::encode_to_slice([byte], &mut digits).unwrap();
+    out.extend_from_slice(&digits)
 }
 
 fn is_plain(byte: u8) -> bool
@@ -98,18 +80,13 @@ fn push_serial(out: &mut Vec<u8>, serial: &Serial) -> Result<(), AllocError>
     }
 }
 
-fn push_family(
-    alloc: Global,
-    out: &mut Vec<u8>,
-    family: u32,
-    generation: u32,
-) -> Result<(), AllocError>
+fn push_family(out: &mut Vec<u8>, family: u32, generation: u32) -> Result<(), AllocError>
     ensures { OnOk result (out.new.items ≡ out.old.items ++ family_line family generation) }
 {
     out.extend_from_slice(b"family ")?;
     push_hex_number(out, family)?;
     out.extend_from_slice(b" generation ")?;
-    push_number(alloc, out, generation)?;
+    push_number(out, generation)?;
     out.extend_from_slice(b"\n")?;
     Ok(())
 }
@@ -160,7 +137,6 @@ fn push_all_members(out: &mut Vec<u8>, serials: &[Serial]) -> Result<(), AllocEr
 }
 
 fn push_started(
-    alloc: Global,
     out: &mut Vec<u8>,
     family: u32,
     generation: u32,
@@ -168,14 +144,13 @@ fn push_started(
 ) -> Result<(), AllocError>
     ensures { OnOk result (out.new.items ≡ out.old.items ++ started_text family generation present.now) }
 {
-    push_family(alloc, out, family, generation)?;
+    push_family(out, family, generation)?;
     out.extend_from_slice(b"volume 0 started\n")?;
     push_all_members(out, present)?;
     Ok(())
 }
 
 fn push_waiting(
-    alloc: Global,
     out: &mut Vec<u8>,
     family: u32,
     generation: u32,
@@ -183,12 +158,12 @@ fn push_waiting(
 ) -> Result<(), AllocError>
     ensures { OnOk result (out.new.items ≡ out.old.items ++ waiting_text family generation missing.now) }
 {
-    push_family(alloc, out, family, generation)?;
+    push_family(out, family, generation)?;
     push_all_absent(out, missing)?;
     Ok(())
 }
 
-fn push_report(alloc: Global, out: &mut Vec<u8>, report: &Report) -> Result<(), AllocError>
+fn push_report(out: &mut Vec<u8>, report: &Report) -> Result<(), AllocError>
     ensures { OnOk result (out.new.items ≡ out.old.items ++ report_text report.now) }
 {
     match report {
@@ -197,12 +172,12 @@ fn push_report(alloc: Global, out: &mut Vec<u8>, report: &Report) -> Result<(), 
             family,
             generation,
             missing,
-        } => push_waiting(alloc, out, *family, *generation, missing.as_slice()),
+        } => push_waiting(out, *family, *generation, missing.as_slice()),
         Report::Started {
             family,
             generation,
             present,
-        } => push_started(alloc, out, *family, *generation, present.as_slice()),
+        } => push_started(out, *family, *generation, present.as_slice()),
     }
 }
 
@@ -211,6 +186,6 @@ pub fn text_of(alloc: Global, report: &Report) -> Result<Vec<u8>, AllocError>
     ensures { IfOk result (λ text. text.items ≡ report_text report.now) }
 {
     let mut out = Vec::new(alloc);
-    push_report(alloc, &mut out, report)?;
+    push_report(&mut out, report)?;
     Ok(out)
 }

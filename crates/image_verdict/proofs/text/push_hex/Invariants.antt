@@ -1,7 +1,0 @@
-use Rattle.std.proofs.Common.{◌≡◌, ◌++◌, take}
-use Rattle.std.specs.List.{flat_map}
-use Rattle.image_verdict.specs.Text.{hex_byte}
-use Rattle.image_verdict.proofs.text.push_hex.Given as goal
-
-abbrev pub invariant-loop-byte : goal.invariant-loop-byte
-invariant-loop-byte l = l.out.items ≡ l.initial.out.items ++ flat_map hex_byte (take l.byte-index l.bytes)

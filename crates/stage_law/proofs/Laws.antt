@@ -1,0 +1,143 @@
+-- What a stage's run keeps, over disks that held a container.
+use Rattle.std.proofs.Common.{◌≡◌, ℕ, Bool, List, [], length, take, Option, Some, None, ap, sym, subst, ◌∙◌, arith}
+use Rattle.std.proofs.lemmas.List.{append-nil, take_all}
+use Rattle.imsm_base.specs.declared.units.Sector.{Sector}
+use Rattle.device_log.specs.Log.{Call}
+use Rattle.array_model.specs.declared.journal.Entry.{Entry}
+use Rattle.array_model.specs.Script.{Asked}
+use Rattle.array_model.specs.Blocks.{Laid}
+use Rattle.array_model.specs.Moments.{AllBelow}
+use Rattle.array_model.specs.Rounds.{IsFinished, HasFinished}
+use Rattle.array_model.specs.Renewal.{FitsGeneration}
+use Rattle.block_words.proofs.Renewal.{renewal}
+use Rattle.stage_machine.specs.Setting.{Setting}
+use Rattle.stage_machine.specs.Opens.{AsksFirst, StandsOnAll, IsFirstVolume}
+use Rattle.array_model.specs.AnswerLaw.{AnswerLaw}
+use Rattle.stage_machine.specs.Machine.{Control, World, Reached}
+use Rattle.stage_machine.proofs.Moments.{counted_reached}
+use Rattle.stage_machine.proofs.Ours.{ours_reached}
+use Rattle.stage_machine.proofs.Finished.{fine_reached}
+use Rattle.journal_law.proofs.Form.{is_journal}
+use Rattle.gate_law.proofs.Gate.{gate_reached}
+use Rattle.failure_law.proofs.Failures.{failures_reached}
+use Rattle.round_law.proofs.Law.{round_reached, last_reached}
+use Rattle.answer_law.proofs.Order.{in_order}
+use Rattle.answer_law.proofs.JobKinds.{reads_in_sync}
+use Rattle.answer_law.proofs.Runs.{answers_honest}
+use Rattle.rest_law.specs.Rest.{IsAtRest}
+use Rattle.rest_law.proofs.Halts.{ended}
+use Rattle.rest_law.proofs.Durable.{durably_clean}
+use Rattle.first_opening.specs.Opened.{Opened, IsOpening, setting_of}
+use Rattle.first_opening.specs.Copies.{HoldsCopies, first_copy, differs}
+use Rattle.first_opening.proofs.Found.{stands-on-all}
+use Rattle.first_opening.proofs.Volume.{first-volume}
+use Rattle.first_opening.proofs.Copies.{holds-content}
+use Rattle.first_opening.proofs.Asked.{asks-first}
+use Rattle.stage.specs.Stages as stages
+use Rattle.stage.specs.Stages.{Given}
+use Rattle.stage.specs.Runs.{RanTrue}
+use Rattle.stage_law.specs.Runs.{IsRunOn, AsksRows, given_on, start_on}
+use Rattle.stage_law.specs.Laws.{KeepsForm, KeepsLog, KeepsLaws, IsSince, AllAnswered, IsLeftClean}
+use Rattle.stage_law.proofs.Opened.{alike_on, reached_on, honest_on}
+use Rattle.stage_law.proofs.Ended.{ActorsStill, rests, can_end}
+
+-- THE MACHINE OVER THE DISKS
+
+module _ (o : Opened) (asked : Asked) (opens : IsOpening o) (asks : AsksFirst (setting_of o asked (first_copy o) (differs o))) where
+  abbrev pub T : Setting
+  T = setting_of o asked (first_copy o) (differs o)
+
+  on : StandsOnAll T
+  on = stands-on-all o asked (first_copy o) (differs o) opens
+
+  volume : IsFirstVolume T
+  volume = first-volume o asked (first_copy o) (differs o) opens
+
+  pub form_of : (w : World) → FitsGeneration w.control.round.note → Reached T w → KeepsForm (start_on o (first_copy o) (differs o)) asked w.calls w.journal
+  form_of w fits r = record {
+    form = is_journal T asks renewal on w fits r;
+    order = in_order T asks w r;
+  }
+
+  pub log_of : (w : World) → FitsGeneration w.control.round.note → Reached T w → KeepsLog (start_on o (first_copy o) (differs o)) asked w.log w.journal
+  log_of w fits r = record {
+    gate = gate_reached T asks renewal on volume w fits r;
+    failures = failures_reached T renewal on volume w fits r;
+    reads = reads_in_sync T on volume w.log w.journal (ours_reached T w r) (fine_reached T renewal on volume w fits r);
+  }
+
+  -- the last finished round is the one that the machine keeps
+  last_is : (w : World) → FitsGeneration w.control.round.note → Reached T w → (m : Laid) → IsFinished T.start w.log w.journal m → m ≡ w.control.round.last
+  last_is w fits r m finished =
+      let counted = counted_reached T w r in
+      let whole : take (length w.log) w.log ≡ w.log = take_all (length w.log) w.log (omega arith) in
+      let below : AllBelow (length w.log) w.journal = subst (λ z. AllBelow z w.journal) counted.calls counted.below in
+      let at = round_reached T renewal on volume w fits r (length w.log) w.journal [] (record { parts = sym (append-nil w.journal); calls = omega arith; none_above = below; all_below = tt }) in
+      let one : HasFinished T.start w.log w.journal = subst (λ l. HasFinished T.start l w.journal) whole at in
+      one.one m finished ∙ sym (one.one w.control.round.last (last_reached T renewal on volume w fits r))
+
+  -- a run at rest leaves the volume clean
+  pub left_clean : (w : World) → FitsGeneration w.control.round.note → Reached T w → AsksRows asked.ops → w.control.failed ≡ None → IsAtRest T w.control → IsLeftClean (start_on o (first_copy o) (differs o)) w.log w.journal
+  left_clean w fits r rows alive rest =
+      let can = can_end o asked (first_copy o) (differs o) opens rows in
+      record {
+        clean = λ m finished. ap (λ x. T.start.words.is_dirty x 0) (last_is w fits r m finished) ∙ (ended T asks can w r alive rest).clean;
+        durable = durably_clean T w asks can renewal on volume fits r alive rest;
+      }
+
+  pub all_answered : (w : World) → Reached T w → AsksRows asked.ops → w.control.failed ≡ None → IsAtRest T w.control → AllAnswered asked.ops w.journal
+  all_answered w r rows alive rest = (ended T asks (can_end o asked (first_copy o) (differs o) opens rows) w r alive rest).answered
+
+-- THE STAGE'S RUN
+
+abbrev pub SeenRun : Given → Control → ℕ → List Entry → Option (List (List Sector)) → Option (List Call) → Type 0
+SeenRun given c calls journal contents told = RanTrue (stages.setting_of given) c calls journal contents told
+
+module _ (o : Opened) (asked : Asked) (given : Given) (run : IsRunOn o asked given) (c : Control) (calls : ℕ) (journal : List Entry) (contents : Option (List (List Sector))) (told : Option (List Call))
+    (fits : FitsGeneration c.round.note) (seen : SeenRun given c calls journal contents told) where
+  asks : AsksFirst (setting_of o asked (first_copy o) (differs o))
+  asks = asks-first o asked (first_copy o) (differs o) run.asks
+
+  abbrev pub seen_on : SeenRun (given_on o asked.ops) c calls journal contents told
+  seen_on = subst (λ g. SeenRun g c calls journal contents told) run.found seen
+
+  abbrev pub world : World
+  world = record { control = c; calls = calls; log = seen_on.ran.log; journal = journal }
+
+  reached : Reached (setting_of o asked (first_copy o) (differs o)) world
+  reached = reached_on o asked (first_copy o) (differs o) run.opens world seen_on.ran.run
+
+  pub keeps_form : KeepsForm (start_on o (first_copy o) (differs o)) asked calls journal
+  keeps_form = form_of o asked run.opens asks world fits reached
+
+  answers : (all : List Call) → told ≡ Some all → contents ≡ Some o.contents → (content : ℕ → ℕ → Sector) (unsure : ℕ → ℕ → Bool) → HoldsCopies o content unsure
+      → AnswerLaw (start_on o content unsure) asked seen_on.ran.log journal
+  answers all known held content unsure copies =
+      let T = setting_of o asked content unsure in
+      answers_honest T (asks-first o asked content unsure run.asks) renewal (stands-on-all o asked content unsure run.opens) (first-volume o asked content unsure run.opens)
+      (holds-content o asked content unsure run.opens copies) world fits
+      (honest_on o asked content unsure run.opens world (seen_on.honest o.contents all held known))
+
+  -- the actors of the stage are still
+  at_rest : ActorsStill (stages.setting_of given) c → IsAtRest (setting_of o asked (first_copy o) (differs o)) c
+  at_rest still =
+      rests (stages.setting_of (given_on o asked.ops)) (setting_of o asked (first_copy o) (differs o)) (alike_on o asked (first_copy o) (differs o) run.opens) c
+      (subst (λ g. ActorsStill (stages.setting_of g) c) run.found still)
+
+  pub keeps_laws : (all : List Call) → told ≡ Some all
+      → (log : List Call) × IsSince calls all log × KeepsLaws o asked contents log journal
+      × (AsksRows asked.ops → (c.failed ≡ None) → ActorsStill (stages.setting_of given) c → IsLeftClean (start_on o (first_copy o) (differs o)) log journal)
+  keeps_laws all known = (
+    seen_on.ran.log,
+    record {
+      before = seen_on.ran.before;
+      reads = seen_on.ran.reads;
+      joined = seen_on.ran.agrees all known;
+      counted = sym (counted_reached (setting_of o asked (first_copy o) (differs o)) world reached).calls;
+    },
+    record { kept = log_of o asked run.opens asks world fits reached; answers = answers all known },
+    λ rows alive still. left_clean o asked run.opens asks world fits reached rows alive (at_rest still),
+  )
+
+  pub answers_all : AsksRows asked.ops → c.failed ≡ None → ActorsStill (stages.setting_of given) c → AllAnswered asked.ops journal
+  answers_all rows alive still = all_answered o asked run.opens asks world reached rows alive (at_rest still)

@@ -1,0 +1,4 @@
+pub mod Agreement
+pub mod Opened
+pub mod Ended
+pub mod Laws

@@ -1,0 +1,56 @@
+-- The laws of a run, together. Source: this project's own.
+use Rattle.std.specs.Prelude.{◌≡◌, ℕ, ◌<◌, Bool, true, false, List, ◌++◌, length, Option, Some}
+use Rattle.std.specs.List.{AllByRecursion}
+use Rattle.imsm_base.specs.declared.units.Sector.{Sector}
+use Rattle.device_log.specs.Log.{Call}
+use Rattle.array_model.specs.declared.journal.Entry.{Entry}
+use Rattle.array_model.specs.declared.script.Op.{Op}
+use Rattle.array_model.specs.Script.{Asked}
+use Rattle.array_model.specs.Blocks.{Laid}
+use Rattle.array_model.specs.Events.{has}
+use Rattle.array_model.specs.Moments.{EachCall}
+use Rattle.array_model.specs.Rounds.{IsFinished, DurableOnWorking}
+use Rattle.array_model.specs.Form.{IsJournal}
+use Rattle.array_model.specs.WriteGate.{WriteGate}
+use Rattle.array_model.specs.FailureLaw.{FailureLaw}
+use Rattle.array_model.specs.AnswerLaw.{AnswerLaw, IsInOrder, ReadsInSync}
+use Rattle.array_model.specs.Start.{Start}
+use Rattle.rest_law.specs.Rest.{is_ack_of}
+use Rattle.first_opening.specs.Opened.{Opened}
+use Rattle.first_opening.specs.Copies.{HoldsCopies, first_copy, differs}
+use Rattle.stage.specs.Runs.{IsReading}
+use Rattle.stage_law.specs.Runs.{start_on}
+
+-- what needs no log: the form of the journal, and the order of each client's answers
+pub record KeepsForm (start : Start) (asked : Asked) (calls : ℕ) (journal : List Entry) : Type 0 where
+  pub form : IsJournal start asked calls journal
+  pub order : (client : ℕ) → IsInOrder asked.ops journal client
+
+-- what needs a log, and no contents: the write gate law, the failure law, and that only members in sync are read
+pub record KeepsLog (start : Start) (asked : Asked) (log : List Call) (journal : List Entry) : Type 0 where
+  pub gate : WriteGate start asked.ops log journal
+  pub failures : FailureLaw start asked.ops log journal
+  pub reads : EachCall (λ before call. ReadsInSync start log journal before call.disk call.what) log
+
+-- each operation was answered
+abbrev pub AllAnswered : List Op → List Entry → Type 0
+AllAnswered ops journal = (i : ℕ) → i < length ops → has (is_ack_of i) journal ≡ true
+
+-- volume 0 is clean in the last finished round, and on every working member that is durable
+pub record IsLeftClean (start : Start) (log : List Call) (journal : List Entry) : Type 0 where
+  pub clean : (m : Laid) → IsFinished start log journal m → start.words.is_dirty m 0 ≡ false
+  pub durable : DurableOnWorking start log journal (λ m. start.words.is_dirty m 0 ≡ false)
+
+-- the calls of a run, behind reads that were made before it
+pub record IsSince (calls : ℕ) (all log : List Call) : Type 0 where
+  pub before : List Call
+  pub reads : AllByRecursion (λ call. IsReading call.what) before
+  pub joined : all ≡ before ++ log
+  pub counted : length log ≡ calls
+
+-- The laws of a run over disks that held a container, where their bank tells its log. The answers are lawful where it
+-- tells too what it held, for each content that both copies held but for unsure sectors.
+pub record KeepsLaws (o : Opened) (asked : Asked) (contents : Option (List (List Sector))) (log : List Call) (journal : List Entry) : Type 0 where
+  pub kept : KeepsLog (start_on o (first_copy o) (differs o)) asked log journal
+  pub answers : contents ≡ Some o.contents → (content : ℕ → ℕ → Sector) (unsure : ℕ → ℕ → Bool) → HoldsCopies o content unsure
+      → AnswerLaw (start_on o content unsure) asked log journal

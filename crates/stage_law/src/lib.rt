@@ -1,0 +1,31 @@
+//! The laws of a run, promised of the stage that makes it: over every bank, for every list of turns.
+#![tactic(auto)]
+
+ghost use Rattle.std.specs.Prelude.{◌≡◌, ℕ, List, Some};
+ghost use Rattle.device_log.specs.Log.{Call};
+ghost use Rattle.array_model.specs.Script.{Asked};
+ghost use Rattle.first_opening.specs.Opened.{Opened};
+ghost use Rattle.first_opening.specs.Copies.{first_copy, differs};
+ghost use Rattle.stage.specs.Drives.{AllStill};
+ghost use Rattle.stage_law.specs.Runs.{IsRunOn, AsksRows, start_on};
+ghost use Rattle.stage_law.specs.Laws.{KeepsForm, KeepsLaws, IsSince, AllAnswered, IsLeftClean};
+
+use array_model::Journal;
+use member_bank::Bank;
+use stage::Stage;
+
+/// Closes a stage, after whatever turns. Where its bank held a container of the first form, the journal has the form of
+/// one and each client's answers come in order; where the bank tells its log too, its calls since the opening keep the
+/// laws of a run. Where no actor has anything left to do, each operation was answered and the volume is left clean.
+pub fn finish<B: Bank>(stage: Stage<B>) -> (B, Journal)
+    ensures parts { (result.0 ≡ stage.bank) × (result.1.entries ≡ stage.journal) }
+    ensures form { (o : Opened) (asked : Asked) → IsRunOn o asked stage.given
+        → KeepsForm (start_on o (first_copy o) (differs o)) asked stage.calls stage.journal }
+    ensures laws { (o : Opened) (asked : Asked) → IsRunOn o asked stage.given → (all : List Call) → B.log stage.bank ≡ Some all
+        → (log : List Call) × IsSince stage.calls all log × KeepsLaws o asked (B.opening stage.bank) log stage.journal
+        × (AsksRows asked.ops → AllStill stage → IsLeftClean (start_on o (first_copy o) (differs o)) log stage.journal) }
+    ensures answered { (o : Opened) (asked : Asked) → IsRunOn o asked stage.given → AsksRows asked.ops → AllStill stage
+        → AllAnswered asked.ops stage.journal }
+{
+    stage.close()
+}
