@@ -3,3 +3,4 @@ pub mod Contents
 pub mod Told
 pub mod Numbers
 pub mod Found
+pub mod Given
