@@ -4,3 +4,4 @@ pub mod Told
 pub mod Numbers
 pub mod Found
 pub mod Given
+pub mod Readings

@@ -4,5 +4,7 @@
 mod block;
 mod disks;
 mod opening;
+#[cfg(test)]
+mod tests;
 
 pub use opening::{opening_of, told_images_stand};
