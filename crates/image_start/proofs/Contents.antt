@@ -13,9 +13,8 @@ use Rattle.control_state.specs.Seen.{no_sector}
 use Rattle.first_opening.specs.Opened.{IsOpening, block_of, serial_at}
 use Rattle.image_verdict.specs.declared.images.ImageRead.{ImageRead}
 use Rattle.image_verdict.specs.Reports.{Holds, bytes_of_all, first_block}
-use Rattle.image_verdict.specs.Images.{serials_of_all}
+use Rattle.image_verdict.specs.Images.{sizes_of_all, serials_of_all}
 use Rattle.image_start.specs.Starts.{IsStarted, StandIn, Starts}
-use Rattle.image_verdict.specs.Images.{sizes_of_all}
 use Rattle.image_start.specs.Openings.{first_anchor, opened_on}
 use Rattle.image_start.proofs.Images.{IsAt, IsFirst, IsRead, all-hold, all-there, are-apart, first-image, holds-at, image-at, is-read, length-serials, none-absent}
 

@@ -31,8 +31,8 @@ use Rattle.first_opening.proofs.Volume.{ArePair, IsMirror, in-volume, mirror, pa
 use Rattle.stage.specs.Runs.{FitsDisks}
 use Rattle.image_verdict.specs.declared.images.ImageRead.{ImageRead}
 use Rattle.image_verdict.specs.Reports.{absent, first_block, is_there}
-use Rattle.image_start.specs.Starts.{Starts}
 use Rattle.image_verdict.specs.Images.{sizes_of_all}
+use Rattle.image_start.specs.Starts.{Starts}
 use Rattle.image_start.specs.Openings.{IsMirrorShape, first_anchor, first_shape, opened_on}
 use Rattle.image_start.proofs.Images.{length-serials, length-sizes, none-absent, none-left}
 use Rattle.image_start.proofs.Contents.{a-bank, block-is, contents_of}

@@ -14,9 +14,8 @@ use Rattle.array_model.specs.Meaning.{has_serial}
 use Rattle.control_state.specs.Seen.{no_sector}
 use Rattle.image_verdict.specs.declared.images.ImageRead.{ImageRead}
 use Rattle.image_verdict.specs.Reports.{Holds, absent, anchor_block, bytes_of_all, first_block, is_there}
-use Rattle.image_verdict.specs.Images.{serials_of_all}
+use Rattle.image_verdict.specs.Images.{sizes_of_all, serials_of_all}
 use Rattle.image_start.specs.Starts.{AreDistinct, IsStarted}
-use Rattle.image_verdict.specs.Images.{sizes_of_all}
 use Rattle.image_start.specs.Openings.{anchor_read, first_anchor}
 
 -- AN IMAGE OF A NUMBER

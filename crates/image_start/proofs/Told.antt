@@ -8,10 +8,9 @@ use Rattle.imsm_base.specs.declared.units.Serial.{Serial}
 use Rattle.imsm_base.specs.Whole.{anchor_place}
 use Rattle.device_log.specs.Log.{Call}
 use Rattle.image_verdict.specs.declared.images.ImageRead.{ImageRead}
-use Rattle.image_verdict.specs.Images.{image_told, images_told, was_read}
+use Rattle.image_verdict.specs.Images.{image_told, images_told, was_read, sizes_of_all}
 use Rattle.image_verdict.specs.Reports.{first_block}
 use Rattle.image_start.specs.Starts.{IsStarted, StandIn}
-use Rattle.image_verdict.specs.Images.{sizes_of_all}
 use Rattle.image_start.proofs.Images.{IsRead, all-hold, holds-at, is-read}
 
 made-at : {X : Type 0} (f : ℕ → X) (n d : ℕ) (x : X) → slice_get (map f (range_with_len 0 n)) d ≡ Some x → x ≡ f d

@@ -11,8 +11,7 @@ use Rattle.first_opening.specs.Opened.{Opened, block_of, newest_of, targets_of, 
 use Rattle.stage.specs.declared.open.Opening.{Opening}
 use Rattle.image_verdict.specs.declared.images.ImageRead.{ImageRead}
 use Rattle.image_verdict.specs.Reports.{bytes_of_all}
-use Rattle.image_verdict.specs.Images.{serials_of_all}
-use Rattle.image_verdict.specs.Images.{sizes_of_all}
+use Rattle.image_verdict.specs.Images.{sizes_of_all, serials_of_all}
 
 -- the anchor of an image, where it was read
 abbrev pub anchor_read : Option ImageRead → Sector

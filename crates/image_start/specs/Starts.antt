@@ -9,7 +9,7 @@ use Rattle.imsm_base.specs.Whole.{anchor_place}
 use Rattle.image_verdict.specs.declared.images.ImageRead.{ImageRead}
 use Rattle.image_verdict.specs.declared.report.Report.TheVariants.{Started}
 use Rattle.image_verdict.specs.Reports.{IsReport}
-use Rattle.image_verdict.specs.Images.{serials_of_all, sizes_of_all}
+use Rattle.image_verdict.specs.Images.{sizes_of_all, serials_of_all}
 
 -- the report on the images is that their volume starts
 pub record IsStarted (images : List ImageRead) : Type 0 where

@@ -50,8 +50,8 @@ fn member_of(images: &[ImageRead], mpb: &MpbRef<'_>, slot: Slot) -> DiskNo
     requires slot { slot.0 < 2 }
     ensures { position (λ (i : Image). bytes_eq i.serial.0 (slot_words (block_of mpb.now) (member (volume_at 0 (block_of mpb.now)) slot.0)).serial) images.now ≡ Some result.0 }
 {
-    let index = mpb.map_ord(VolNo(0), 0, slot) % INDEX_RANGE;
-    image_of(images, &mpb.disk_serial(index as u8))
+    let index = (mpb.map_ord(VolNo(0), 0, slot) % INDEX_RANGE) as u8;
+    image_of(images, &mpb.disk_serial(index))
 }
 
 /// The disks of the volume, in the order of its two slots.

@@ -10,9 +10,8 @@ ghost use Rattle.control_state.specs.Seen.{numbers};
 ghost use Rattle.first_opening.specs.Opened.{IsOpening};
 ghost use Rattle.stage.specs.Runs.{FitsDisks};
 ghost use Rattle.image_verdict.specs.declared.images.ImageRead.{ImageRead as Image};
-ghost use Rattle.image_verdict.specs.Images.{images_told};
+ghost use Rattle.image_verdict.specs.Images.{images_told, sizes_of_all};
 ghost use Rattle.image_start.specs.Starts.{AreDistinct, IsStarted, StandIn};
-ghost use Rattle.image_verdict.specs.Images.{sizes_of_all};
 ghost use Rattle.image_start.specs.Openings.{IsMirrorShape, Opens, first_shape, opened_on};
 
 use crate::block::{first_anchor, first_block};
