@@ -1,14 +1,15 @@
 -- Words name their images in one way.
-use Rattle.std.proofs.Common.{◌≡◌, ◌<◌, ◌≤◌, ◌+◌, ◌-◌, ◌&&◌, ℕ, suc, zero, List, [], ◌∷◌, ◌++◌, Bool, true, false, length, map, take, drop, get_or, refl, sym, ◌∙◌, ap, subst, arith, drop-drop, length-drop, String}
-use Rattle.std.specs.Prelude.{string_bytes}
-use Rattle.std.specs.declared.alloc.Global.{Global}
+use Rattle.std.proofs.Common.{◌≡◌, ◌<◌, ◌≤◌, ◌+◌, ◌-◌, ◌&&◌, ℕ, suc, zero, List, [], ◌∷◌, ◌++◌, Bool, true, false, length, map, take, drop, get_or, refl, sym, ◌∙◌, ap, subst, arith, drop-drop, length-drop, Result, Err, IsErrAnd}
 use Rattle.std.specs.List.{AllByRecursion, list_all}
 use Rattle.std.proofs.lemmas.Bool.{false≢true}
 use Rattle.std.proofs.lemmas.List.{length-map, take_all}
 use Rattle.std.proofs.lemmas.List.Folds.{list_all-map}
 use Rattle.image_words.specs.declared.words.ImageArg.{ImageArg}
-use Rattle.image_words.specs.Words.{ImageWord, IsAssemble, IsImageWord, IsCommand, is_name_byte, is_apart_from, are_distinct, assemble_word, spelled, texts}
-use Rattle.image_words.specs.Args.{word_of, words_of}
+use Rattle.image_words.specs.declared.words.WordsFault.{WordsFault}
+use Rattle.image_words.specs.declared.verbs.Verb.{Verb}
+use Rattle.image_words.specs.Words.{ImageWord, IsImageWord, is_name_byte, is_apart_from, are_distinct, spelled}
+use Rattle.image_words.specs.Args.{Asks, word_of, words_of}
+use Rattle.image_words.proofs.Asked.{asked_images}
 use Rattle.image_words.proofs.Names.{bytes_of_name, not_equals, same_word}
 
 and_left : (a b : Bool) → (a && b) ≡ true → a ≡ true
@@ -71,23 +72,17 @@ apart_from all i b is =
     subst (λ (l : List ImageArg). are_distinct (words_of l) ≡ (b && are_distinct (words_of (drop 1 l)))) same is in
     tested ∙ ap (λ (l : List ImageArg). b && are_distinct (words_of l)) (drop-drop 1 i all)
 
-rest_same : (word : List ℕ) (xs ys : List (List ℕ)) → word ∷ xs ≡ word ∷ ys → xs ≡ ys
-rest_same word xs ys same = cc
+-- where the words behind what a command does name images, they are those of each reading
+pub one_reading : (words rest : List (List ℕ)) (verb : Verb) (vs : List ImageArg) (v : Verb) (ws : List ImageWord)
+    → ((v : Verb) (ws : List ImageWord) → Asks words v ws → (verb ≡ v) × (rest ≡ map spelled ws))
+    → rest ≡ map spelled (words_of vs) → AllByRecursion IsImageWord (words_of vs) → Asks words v ws → (verb ≡ v) × (words_of vs ≡ ws)
+one_reading words rest verb vs v ws only found each asks =
+    let read = only v ws asks in
+    (read.0, words_same (words_of vs) ws each (asked_images words v ws asks).each (sym found ∙ read.1))
 
--- the words after the first spell the images
-pub rest_spelled : (words rest : List (List ℕ)) (ws : List ImageWord) → words ≡ assemble_word ∷ rest → IsAssemble words ws → rest ≡ map spelled ws
-rest_spelled words rest ws split is = rest_same assemble_word rest (map spelled ws) (sym split ∙ is.words_are)
+-- an error that is passed on is the one that was met
+pub same_fault : {X : Type 0} (r : Result X WordsFault) (met fault : WordsFault) → IsErrAnd r (λ e. e ≡ met) → r ≡ Err fault → met ≡ fault
+same_fault {X} r met fault told is = sym (subst (λ (s : Result X WordsFault). IsErrAnd s (λ e. e ≡ met)) is told)
 
-pub one_reading : (words : List (List ℕ)) (vs ws : List ImageWord) → IsAssemble words vs → IsAssemble words ws → vs ≡ ws
-one_reading words vs ws one other = words_same vs ws one.named.each other.named.each (sym (rest_spelled words (map spelled vs) vs one.words_are one) ∙ rest_spelled words (map spelled vs) ws one.words_are other)
-
-pub not_distinct : (words rest : List (List ℕ)) (vs : List ImageWord) → words ≡ assemble_word ∷ rest
-    → rest ≡ map spelled vs → AllByRecursion IsImageWord vs → false ≡ are_distinct vs → IsCommand words → ⊥
-not_distinct words rest vs split same each repeated command =
-    let ws = command.0 in
-    let rests : map spelled vs ≡ map spelled ws = sym same ∙ rest_spelled words rest ws split command.1 in
-    let equal : vs ≡ ws = words_same vs ws each command.1.named.each rests in
-    false≢true (repeated ∙ ap are_distinct equal ∙ command.1.named.distinct)
-
-pub same_count : (rest : List (String Global)) (vs : List ImageWord) → texts rest ≡ map spelled vs → length rest ≡ length vs
-same_count rest vs same = sym (length-map rest (λ (w : String Global). string_bytes w)) ∙ (ap (λ (l : List (List ℕ)). length l) same ∙ length-map vs spelled)
+pub length-words : (vs : List ImageArg) → length (words_of vs) ≡ length vs
+length-words vs = length-map vs word_of

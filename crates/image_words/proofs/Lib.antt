@@ -1,2 +1,4 @@
 pub mod Names
+pub mod Limits
+pub mod Asked
 pub mod Grammar

@@ -1,6 +1,7 @@
 -- The words of a command. Source: this project's own.
-use Rattle.std.specs.Prelude.{◌≡◌, ℕ, ◌-◌, ◌<◌, ◌≤◌, ◌==◌, ◌&&◌, nat_le, not, Bool, true, List, [], ◌∷◌, ◌++◌, length, map, codes, replicate, String, string_bytes}
+use Rattle.std.specs.Prelude.{◌≡◌, ℕ, ◌-◌, ◌^◌, ◌<◌, ◌≤◌, ◌==◌, ◌&&◌, ◌⊎◌, nat_le, not, Bool, true, List, [], ◌∷◌, ◌++◌, length, map, codes, replicate, String, string_bytes}
 use Rattle.std.specs.Str.{bytes_eq}
+use Rattle.std.specs.Fmt.{decimal}
 use Rattle.std.specs.declared.alloc.Global.{Global}
 use Rattle.std.specs.List.{AllByRecursion, list_all}
 use Rattle.imsm_base.specs.declared.units.Serial.{Serial}
@@ -47,21 +48,50 @@ pub record AreImages (images : List ImageWord) : Type 0 where
 abbrev pub assemble_word : List ℕ
 assemble_word = codes "assemble"
 
+abbrev pub replay_word : List ℕ
+replay_word = codes "replay"
+
+abbrev pub journal_word : List ℕ
+journal_word = codes "--journal"
+
+-- a word that gives the limit of a journal's entries
+pub record IsLimit (limit : ℕ) (word : List ℕ) : Type 0 where
+  pub word_is : word ≡ decimal limit
+  pub low : 4 ≤ limit
+  pub high : limit ≤ 2 ^ 20
+
+-- the option of a journal's limit; where it isn't given the limit is 2^20
+abbrev pub HasJournal : ℕ → List (List ℕ) → Type 0
+HasJournal limit option =
+    ((option ≡ []) × (limit ≡ 2 ^ 20))
+    ⊎ ((word : List ℕ) × (option ≡ journal_word ∷ word ∷ []) × IsLimit limit word)
+
 -- the command `assemble NAME=FILE..`
 pub record IsAssemble (words : List (List ℕ)) (images : List ImageWord) : Type 0 where
   pub words_are : words ≡ assemble_word ∷ map spelled images
   pub named : AreImages images
 
--- the grammar of words, which has one command
+-- the command `replay [--journal N] NAME=FILE..`
+pub record IsReplay (words : List (List ℕ)) (limit : ℕ) (images : List ImageWord) : Type 0 where
+  pub option : List (List ℕ)
+  pub given : HasJournal limit option
+  pub words_are : words ≡ replay_word ∷ (option ++ map spelled images)
+  pub named : AreImages images
+
+-- the command of words names these images
+abbrev pub Names : List (List ℕ) → List ImageWord → Type 0
+Names words images = IsAssemble words images ⊎ ((limit : ℕ) × IsReplay words limit images)
+
+-- the grammar of words
 abbrev pub IsCommand : List (List ℕ) → Type 0
-IsCommand words = (images : List ImageWord) × IsAssemble words images
+IsCommand words = (images : List ImageWord) × Names words images
 
 -- a command that opens its images, and one that names more of them than are opened
 abbrev pub IsWithinLimit : List (List ℕ) → Type 0
-IsWithinLimit words = (images : List ImageWord) × IsAssemble words images × (length images ≤ MAX_DISKS)
+IsWithinLimit words = (images : List ImageWord) × Names words images × (length images ≤ MAX_DISKS)
 
 abbrev pub IsPastLimit : List (List ℕ) → Type 0
-IsPastLimit words = (images : List ImageWord) × IsAssemble words images × (MAX_DISKS < length images)
+IsPastLimit words = (images : List ImageWord) × Names words images × (MAX_DISKS < length images)
 
 -- what is known of words as text
 abbrev pub texts : List (String Global) → List (List ℕ)

@@ -1,6 +1,12 @@
-//! The words of a command.
+//! The words of a command: the grammar, and the images that they name.
 #![tactic(auto)]
 
+mod commands;
+#[cfg(test)]
+mod tests;
+mod verbs;
 mod words;
 
-pub use words::{ImageArg, WordsFault, image_of, parse};
+pub use commands::{Command, parse};
+pub use verbs::Verb;
+pub use words::{ImageArg, WordsFault, image_of};

@@ -1,8 +1,8 @@
-//! The words of a command: what is in the grammar, and the images that they name.
+//! The words that name images.
 ghost use Rattle.std.specs.Prelude.{◌≡◌, ◌≢◌, ◌↔◌, ◌&&◌, nat_le, ℕ, ◌<◌, ◌≤◌, List, ◌∷◌, length, map, drop, Err, IsTrue, IsSome, IfSome, IfNone, IfOk};
 ghost use Rattle.std.specs.List.{AllByRecursion, list_all};
 ghost use Rattle.std.specs.Option.{IsSomeAnd};
-ghost use Rattle.image_words.specs.Words.{ImageWord, IsImageWord, IsAssemble, IsCommand, IsWithinLimit, IsPastLimit, are_distinct, assemble_word, is_apart_from, is_name, is_name_byte, serial_named, spelled, texts};
+ghost use Rattle.image_words.specs.Words.{ImageWord, IsImageWord, are_distinct, is_apart_from, is_name, is_name_byte, serial_named, spelled, texts};
 ghost use Rattle.image_words.specs.Args.{word_of, words_of};
 ghost use Rattle.image_words.specs.declared.words.WordsFault.TheVariants as faults;
 
@@ -101,7 +101,7 @@ impl<T: Drop> From<AllocFailed<T>> for WordsFault {
 }
 
 /// The images that words name, if each word names one.
-fn images_of(alloc: Global, words: &[String]) -> Result<Vec<ImageArg<'_>>, WordsFault>
+pub fn images_of(alloc: Global, words: &[String]) -> Result<Vec<ImageArg<'_>>, WordsFault>
     ensures each { IfOk result (λ images. AllByRecursion IsImageWord (words_of images.items)) }
     ensures found { IfOk result (λ images. texts words.now ≡ map spelled (words_of images.items)) }
     ensures refused { result ≡ Err WordsFault.Words → (ws : List ImageWord) → AllByRecursion IsImageWord ws → texts words.now ≡ map spelled ws → ⊥ }
@@ -139,7 +139,7 @@ fn is_first_apart(images: &[ImageArg<'_>]) -> bool
     }
 }
 
-fn are_apart(images: &[ImageArg<'_>]) -> bool
+pub fn are_apart(images: &[ImageArg<'_>]) -> bool
     ensures { result ≡ are_distinct (words_of images.now) }
 {
     for i in 0..images.len() {
@@ -148,45 +148,4 @@ fn are_apart(images: &[ImageArg<'_>]) -> bool
         }
     }
     true
-}
-
-fn is_assemble(word: &str) -> bool
-    ensures { IsTrue result ↔ (word.now ≡ assemble_word) }
-{
-    word == "assemble"
-}
-
-/// The words that name images of the command `assemble NAME=FILE..`.
-fn image_words(words: &[String]) -> Option<&[String]>
-    ensures some { IfSome result (λ rest. (texts words.now ≡ assemble_word ∷ texts rest.now) × (1 ≤ length rest.now)) }
-    ensures none { IfNone result (IsCommand (texts words.now) → ⊥) }
-{
-    let (first, rest) = words.split_first()?;
-    if is_assemble(first.as_str()) && !rest.is_empty() {
-        Some(rest)
-    } else {
-        None
-    }
-}
-
-/// The images of the command `assemble NAME=FILE..`. The words come before the limit of images.
-pub fn parse(alloc: Global, words: &[String]) -> Result<Vec<ImageArg<'_>>, WordsFault>
-    ensures found { IfOk result (λ images. IsAssemble (texts words.now) (words_of images.items)) }
-    ensures few { IfOk result (λ images. length images.items ≤ MAX_DISKS) }
-    ensures within { IfOk result (λ images. IsPastLimit (texts words.now) → ⊥) }
-    ensures refused { result ≡ Err WordsFault.Words → IsCommand (texts words.now) → ⊥ }
-    ensures past { result ≡ Err WordsFault.Images → IsPastLimit (texts words.now) }
-    ensures past_alone { result ≡ Err WordsFault.Images → IsWithinLimit (texts words.now) → ⊥ }
-{
-    let Some(named) = image_words(words) else {
-        return Err(WordsFault::Words);
-    };
-    let images = images_of(alloc, named)?;
-    if !are_apart(images.as_slice()) {
-        return Err(WordsFault::Words);
-    }
-    if images.len() > MAX_DISKS {
-        return Err(WordsFault::Images);
-    }
-    Ok(images)
 }

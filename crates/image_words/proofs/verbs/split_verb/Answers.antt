@@ -1,0 +1,16 @@
+use Rattle.std.proofs.Common.{◌∙◌, ap, sym}
+use Rattle.image_words.specs.Words.{texts}
+use Rattle.image_words.specs.declared.verbs.Verb.TheVariants.{Replay}
+use Rattle.image_words.proofs.Asked.{replay_asked}
+use Rattle.image_words.proofs.verbs.split_verb.Goals as goal
+
+pub returns-in_err-limit-clause-only : goal.returns-in_err-limit-clause-only
+returns-in_err-limit-clause-only c = λ verb images asks.
+    let asked = replay_asked (texts c.args.words.now) (texts c.in_ok-given.given.now) verb images c.in_ok-given.ensures.some asks in
+    absurd (c.in_err-limit.ensures.only asked.0 asked.1 images asked.3 asked.4.each asked.5)
+
+pub returns-clause-only : goal.returns-clause-only
+returns-clause-only c = λ verb images asks.
+    let asked = replay_asked (texts c.args.words.now) (texts c.in_ok-given.given.now) verb images c.in_ok-given.ensures.some asks in
+    let found = c.in_ok-limit.ensures.only asked.0 asked.1 images asked.3 asked.4.each asked.5 in
+    (ap Replay found.0 ∙ sym asked.2, found.1)

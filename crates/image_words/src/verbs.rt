@@ -1,0 +1,90 @@
+//! What a command does, by its first words.
+ghost use Rattle.std.specs.Prelude.{◌≡◌, ◌^◌, ◌≤◌, nat_lt, ℕ, List, ◌∷◌, ◌++◌, map, slice_index, IfSome, IfNone};
+ghost use Rattle.std.specs.List.{AllByRecursion};
+ghost use Rattle.std.specs.Option.{IsSomeAnd};
+ghost use Rattle.image_words.specs.Words.{HasJournal, ImageWord, IsImageWord, IsLimit, spelled, texts};
+ghost use Rattle.image_words.specs.Args.{Asks, Begins};
+
+/// The fewest entries that a journal is limited to. The number is this project's own.
+const MIN_LIMIT: u32 = 4;
+
+/// The most, and the limit of a journal where none is given. The number is this project's own.
+const MAX_LIMIT: u32 = 1_048_576;
+
+/// What a command does with its images: it assembles them, or it runs a script over them, with a journal of at most so
+/// many entries.
+#[derive(Clone, Copy, Debug, PartialEq, Eq)]
+pub enum Verb {
+    Assemble,
+    Replay { limit: u32 },
+}
+
+/// Whether a word begins with a byte above `0`, as digits do that have no sign and no zero in front.
+fn begins_above_zero(word: &str) -> bool
+    ensures { result ≡ nat_lt 0x30 (slice_index word.now 0) }
+{
+    !word.is_empty() && word.as_bytes()[0] > b'0'
+}
+
+/// The limit that a word gives, if it is in the range of limits.
+fn limit_of(word: &str) -> Option<u32>
+    ensures some { IfSome result (λ limit. IsLimit limit word.now) }
+    ensures none { IfNone result ((limit : ℕ) → IsLimit limit word.now → ⊥) }
+{
+    let limit = word.parse::<u32>().ok()?;
+    if begins_above_zero(word) && MIN_LIMIT <= limit && limit <= MAX_LIMIT {
+        Some(limit)
+    } else {
+        None
+    }
+}
+
+/// The words behind a first word, if that is this one.
+fn behind<'a>(first: &str, words: &'a [String]) -> Option<&'a [String]>
+    ensures some { IfSome result (λ rest. texts words.now ≡ first.now ∷ texts rest.now) }
+    ensures none { IfNone result ((rest : List (List ℕ)) → texts words.now ≡ first.now ∷ rest → ⊥) }
+{
+    let (word, rest) = words.split_first()?;
+    if word.as_str() == first {
+        Some(rest)
+    } else {
+        None
+    }
+}
+
+/// The limit that the first word gives, and the words behind it.
+fn split_limit(words: &[String]) -> Option<(u32, &[String])>
+    ensures some { IfSome result (λ found. (word : List ℕ) × IsLimit found.0 word × (texts words.now ≡ word ∷ texts found.1.now)) }
+    ensures only { (limit : ℕ) (word : List ℕ) (rest : List (List ℕ)) → IsLimit limit word → texts words.now ≡ word ∷ rest
+        → IsSomeAnd result (λ found. (found.0 ≡ limit) × (texts found.1.now ≡ rest)) }
+{
+    let (word, rest) = words.split_first()?;
+    let limit = limit_of(word.as_str())?;
+    Some((limit, rest))
+}
+
+/// The limit of a journal that options give, and the words behind them.
+fn split_journal(words: &[String]) -> Option<(u32, &[String])>
+    ensures some { IfSome result (λ found. (option : List (List ℕ)) × HasJournal found.0 option × (texts words.now ≡ option ++ texts found.1.now)) }
+    ensures only { (limit : ℕ) (option : List (List ℕ)) (images : List ImageWord) → HasJournal limit option → AllByRecursion IsImageWord images
+        → texts words.now ≡ option ++ map spelled images → IsSomeAnd result (λ found. (found.0 ≡ limit) × (texts found.1.now ≡ map spelled images)) }
+{
+    match behind("--journal", words) {
+        Some(given) => split_limit(given),
+        None => Some((MAX_LIMIT, words)),
+    }
+}
+
+/// What a command does, and the words that name its images.
+pub fn split_verb(words: &[String]) -> Option<(Verb, &[String])>
+    ensures some { IfSome result (λ found. Begins (texts words.now) found.0 (texts found.1.now)) }
+    ensures only { (verb : Verb) (images : List ImageWord) → Asks (texts words.now) verb images
+        → IsSomeAnd result (λ found. (found.0 ≡ verb) × (texts found.1.now ≡ map spelled images)) }
+{
+    if let Some(named) = behind("assemble", words) {
+        return Some((Verb::Assemble, named));
+    }
+    let given = behind("replay", words)?;
+    let (limit, named) = split_journal(given)?;
+    Some((Verb::Replay { limit }, named))
+}
