@@ -1,75 +1,32 @@
-//! The command: its words are read, its images opened, and what is said of them is printed.
-ghost use Rattle.std.specs.Prelude.{◌≡◌, ◌≢◌, ◌≤◌, ◌⊎◌, List, [], length, map, IfSome};
+//! The command: its words are read, and what they ask for is done.
+ghost use Rattle.std.specs.Prelude.{◌≡◌, ◌≤◌, ◌⊎◌, ℕ, List, length};
 ghost use Rattle.std.specs.Option.{IsSomeAnd};
+ghost use Rattle.imsm_base.specs.declared.bounds.TheConstants.{MAX_DISKS};
+ghost use Rattle.array_model.specs.Kept.{ScriptState};
 ghost use Rattle.member_bank.specs.Faults.{Rose};
 ghost use Rattle.image_outside.specs.Outside.{Adds, HasOnlyReads, IsUnused};
 ghost use Rattle.image_outside.specs.Endings.{EndsWithoutMemory, images_limit_line, words_line};
-ghost use Rattle.image_words.specs.Words.{AreImages, ImageWord, IsAssemble, IsCommand, IsPastLimit, IsWithinLimit, serials_named, texts};
-ghost use Rattle.image_words.specs.Args.{words_of};
-ghost use Rattle.image_verdict.specs.Images.{images_told};
-ghost use Rattle.image_verdict.specs.Endings.{IsReported, Reports, Tells};
+ghost use Rattle.image_words.specs.Words.{ImageWord, IsAssemble, IsCommand, IsPastLimit, IsReplay, IsWithinLimit, serials_named, texts};
+ghost use Rattle.image_verdict.specs.Endings.{IsReported, Tells};
+ghost use Rattle.image_replay.specs.Ends.{IsRan};
+ghost use Rattle.image_run.specs.Scripts.{StopsBy, TakesScript, stop_line, stop_status};
+ghost use Rattle.image_run.specs.Replays.{IsPlayed, IsStopped, NamesReplay, PlaysOn};
+ghost use Rattle.image_run.specs.declared.script.ScriptStop.{ScriptStop as Stop};
 
-use crate::opening::{OpenFault, open_all};
-use image_outside::{Shelf, Sink, Source, Status, end, end_unopened, end_without_memory};
-use image_verdict::{print_report, read_images, report_on};
-use image_words::{ImageArg, WordsFault, parse};
-use imsm_base::MAX_DISKS;
-use member_bank::Bank;
+use crate::assembling::assemble_images;
+use crate::replaying::replay_images;
+use image_outside::{Shelf, Sink, Source, Status, end, end_without_memory};
+use image_words::{Verb, WordsFault, parse};
 use std::alloc::Global;
-
-/// Prints what is said of the disks of a bank, of which there are 1 to 16.
-fn assemble<B: Bank, K: Sink>(alloc: Global, bank: &mut B, sink: &mut K) -> Status
-    requires fresh { IfSome (B.log bank.old) (λ l. l ≡ []) }
-    requires some { 1 ≤ length (B.serials bank.old) }
-    ensures reads { HasOnlyReads B.log bank.new }
-    ensures status { IsReported result.0 ⊎ (result.0 ≡ 6) ⊎ (result.0 ≡ 9) }
-    ensures write_fault { result.0 ≡ 6 → Rose (K.faults_of sink.old) (K.faults_of sink.new) }
-    ensures memory { result.0 ≡ 9 → EndsWithoutMemory (K.written sink.old) (K.written sink.new) (K.faults_of sink.old) (K.faults_of sink.new) }
-    ensures reported { IsReported result.0 → IfSome (B.opening bank.new) (λ opening. IfSome (B.log bank.new) (λ log.
-        Reports (images_told (B.serials bank.new) (B.sizes bank.new) opening log) (K.written sink.old) (K.written sink.new) result.0)) }
-    ensures serials { B.serials bank.new ≡ B.serials bank.old }
-{
-    match read_images(alloc, bank) {
-        Ok(images) => print_report(alloc, &report_on(images.as_slice()), sink),
-        Err(_) => end_without_memory(sink),
-    }
-}
-
-/// Opens the images, and prints what is said of them.
-fn run<H: Shelf, K: Sink>(
-    alloc: Global,
-    images: &[ImageArg<'_>],
-    shelf: &mut H,
-    sink: &mut K,
-) -> Status
-    requires unused { IsSomeAnd (H.held shelf.old) (IsUnused H.Held.serials H.Held.log) }
-    requires named { AreImages (words_of images.now) }
-    requires few { length images.now ≤ MAX_DISKS }
-    ensures reads { IsSomeAnd (H.held shelf.new) (HasOnlyReads H.Held.log) }
-    ensures status { IsReported result.0 ⊎ (result.0 ≡ 6) ⊎ (result.0 ≡ 7) ⊎ (result.0 ≡ 9) }
-    ensures write_fault { result.0 ≡ 6 → Rose (K.faults_of sink.old) (K.faults_of sink.new) }
-    ensures open_fault { result.0 ≡ 7 → Rose (H.faults_of shelf.old) (H.faults_of shelf.new) }
-    ensures memory { result.0 ≡ 9 → EndsWithoutMemory (K.written sink.old) (K.written sink.new) (K.faults_of sink.old) (K.faults_of sink.new) }
-    ensures told { IsReported result.0 → IsSomeAnd (H.held shelf.new)
-        (Tells H.Held.serials H.Held.sizes H.Held.opening H.Held.log (serials_named (words_of images.now)) (K.written sink.old) (K.written sink.new) result.0) }
-{
-    match open_all(alloc, images, shelf) {
-        Ok(()) => {}
-        Err(OpenFault::Memory) => return end_without_memory(sink),
-        Err(OpenFault::Failed(i)) => return end_unopened(sink, images[i].name),
-    }
-    let mut bank = shelf.lend();
-    let status = assemble(alloc, &mut bank, sink);
-    shelf.hand_back(bank);
-    status
-}
 
 /// Runs a command that waits for nobody.
 ///
-/// The words are `assemble` and words NAME=FILE, at least one. The status is 0 where the volume starts, 1 where the words
-/// are others, 2 where a disk of the container is absent, 6 where a line couldn't be written, 7 where an image couldn't
-/// be opened, 9 without memory, 10 where more than 16 images are named, and 14 where an image isn't of the form that is
-/// started today.
+/// The words are `assemble` and words NAME=FILE, at least one, or `replay`, perhaps `--journal N`, and words NAME=FILE. The
+/// status is 0 where the volume starts or the replay is done, 1 where the words are others, 2 where a disk of the container
+/// is absent, 3 where an operation names a volume that isn't there, 4 where a line of the script isn't in the grammar, 5
+/// where the script couldn't be read, 6 where a line couldn't be written, 7 where an image couldn't be opened, 8 where the
+/// journal is full, 9 without memory, 10 where a limit is passed, 13 where a call on a disk failed, and 14 where an image
+/// isn't of the form that is started today.
 pub fn image_still<H: Shelf, S: Source, K: Sink>(
     alloc: Global,
     words: &[String],
@@ -79,38 +36,52 @@ pub fn image_still<H: Shelf, S: Source, K: Sink>(
 ) -> Status
     requires unused { IsSomeAnd (H.held shelf.old) (IsUnused H.Held.serials H.Held.log) }
 
-    // No disk is written or synced, whatever the status.
-    ensures reads { IsSomeAnd (H.held shelf.new) (HasOnlyReads H.Held.log) }
+    // No disk is written or synced but by a run.
+    ensures reads { (NamesReplay (texts words.now) → ⊥) → IsSomeAnd (H.held shelf.new) (HasOnlyReads H.Held.log) }
+    ensures unwritten { (IsRan result.0 → ⊥) → (result.0 ≡ 6 → ⊥) → IsSomeAnd (H.held shelf.new) (HasOnlyReads H.Held.log) }
 
-    // No command reads the source.
-    ensures source_left { S.left source.new ≡ S.left source.old }
-    ensures source_faults { S.faults_of source.new ≡ S.faults_of source.old }
-
-    // Nothing is opened where the words are outside the grammar or name too many images.
+    // The source is read by a replay alone, and nothing is opened where the words are outside the grammar or name too many
+    // images.
+    ensures source_left { (NamesReplay (texts words.now) → ⊥) → S.left source.new ≡ S.left source.old }
+    ensures source_faults { (NamesReplay (texts words.now) → ⊥) → S.faults_of source.new ≡ S.faults_of source.old }
     ensures unopened { (IsWithinLimit (texts words.now) → ⊥) → H.held shelf.new ≡ H.held shelf.old }
     ensures unopened_faults { (IsWithinLimit (texts words.now) → ⊥) → H.faults_of shelf.new ≡ H.faults_of shelf.old }
 
     // When each status comes.
     ensures words { result.0 ≡ 1 → IsCommand (texts words.now) → ⊥ }
     ensures no_command { (IsCommand (texts words.now) → ⊥) → (result.0 ≡ 1) ⊎ (result.0 ≡ 6) ⊎ (result.0 ≡ 9) }
-    ensures limit { result.0 ≡ 10 → IsPastLimit (texts words.now) }
     ensures past_limit { IsPastLimit (texts words.now) → (result.0 ≡ 10) ⊎ (result.0 ≡ 6) ⊎ (result.0 ≡ 9) }
-    ensures within_limit { IsWithinLimit (texts words.now) → IsReported result.0 ⊎ (result.0 ≡ 6) ⊎ (result.0 ≡ 7) ⊎ (result.0 ≡ 9) }
+    ensures assembled { (images : List ImageWord) → IsAssemble (texts words.now) images → length images ≤ MAX_DISKS
+        → IsReported result.0 ⊎ (result.0 ≡ 6) ⊎ (result.0 ≡ 7) ⊎ (result.0 ≡ 9) }
+    ensures replayed { NamesReplay (texts words.now)
+        → IsPlayed result.0 ⊎ IsStopped result.0 ⊎ (result.0 ≡ 6) ⊎ (result.0 ≡ 7) ⊎ (result.0 ≡ 9) }
     ensures write_fault { result.0 ≡ 6 → Rose (K.faults_of sink.old) (K.faults_of sink.new) }
     ensures open_fault { result.0 ≡ 7 → Rose (H.faults_of shelf.old) (H.faults_of shelf.new) }
 
-    // What is printed.
+    // What is printed, and what it says.
     ensures words_line { result.0 ≡ 1 → Adds (K.written sink.old) (K.written sink.new) words_line }
-    ensures limit_line { result.0 ≡ 10 → Adds (K.written sink.old) (K.written sink.new) images_limit_line }
+    ensures limit_line { IsPastLimit (texts words.now) → result.0 ≡ 10 → Adds (K.written sink.old) (K.written sink.new) images_limit_line }
     ensures memory { result.0 ≡ 9 → EndsWithoutMemory (K.written sink.old) (K.written sink.new) (K.faults_of sink.old) (K.faults_of sink.new) }
-    ensures told { IsReported result.0 → (images : List ImageWord) × IsAssemble (texts words.now) images × IsSomeAnd (H.held shelf.new)
+    ensures told { (images : List ImageWord) → IsAssemble (texts words.now) images → IsReported result.0 → IsSomeAnd (H.held shelf.new)
         (Tells H.Held.serials H.Held.sizes H.Held.opening H.Held.log (serials_named images) (K.written sink.old) (K.written sink.new) result.0) }
+    ensures stopped { NamesReplay (texts words.now) → IsStopped result.0 → (stop : Stop)
+        × StopsBy (S.left source.old) (S.left source.new) (S.faults_of source.old) (S.faults_of source.new) stop
+        × (result.0 ≡ stop_status stop) × Adds (K.written sink.old) (K.written sink.new) (stop_line stop) }
+    ensures played { (limit : ℕ) (images : List ImageWord) → IsReplay (texts words.now) limit images → IsPlayed result.0
+        → (script : ScriptState) × TakesScript (S.left source.old) (S.left source.new) script
+        × IsSomeAnd (H.held shelf.new) (PlaysOn H.Held.serials H.Held.sizes H.Held.opening H.Held.log H.Held.faults_of
+        (serials_named images) script limit (K.written sink.old) (K.written sink.new) result.0) }
 {
-    match parse(alloc, words) {
-        Ok(images) => run(alloc, images.as_slice(), shelf, sink),
-        Err(WordsFault::Memory) => end_without_memory(sink),
-        Err(WordsFault::Words) => end(sink, b"words\n", Status::WORDS),
-        Err(WordsFault::Images) => end(sink, b"limit images 17\n", Status::LIMIT),
+    let command = match parse(alloc, words) {
+        Ok(command) => command,
+        Err(WordsFault::Memory) => return end_without_memory(sink),
+        Err(WordsFault::Words) => return end(sink, b"words\n", Status::WORDS),
+        Err(WordsFault::Images) => return end(sink, b"limit images 17\n", Status::LIMIT),
+    };
+    let images = command.images.as_slice();
+    match command.verb {
+        Verb::Assemble => assemble_images(alloc, images, shelf, sink),
+        Verb::Replay { limit } => replay_images(alloc, images, limit, shelf, source, sink),
     }
 }
 
@@ -124,32 +95,41 @@ pub fn image_main<H: Shelf, S: Source, K: Sink>(
 ) -> Status
     requires unused { IsSomeAnd (H.held shelf.old) (IsUnused H.Held.serials H.Held.log) }
 
-    // No disk is written or synced, whatever the status.
-    ensures reads { IsSomeAnd (H.held shelf.new) (HasOnlyReads H.Held.log) }
+    // No disk is written or synced but by a run.
+    ensures reads { (NamesReplay (texts words.now) → ⊥) → IsSomeAnd (H.held shelf.new) (HasOnlyReads H.Held.log) }
+    ensures unwritten { (IsRan result.0 → ⊥) → (result.0 ≡ 6 → ⊥) → IsSomeAnd (H.held shelf.new) (HasOnlyReads H.Held.log) }
 
-    // No command reads the source.
-    ensures source_left { S.left source.new ≡ S.left source.old }
-    ensures source_faults { S.faults_of source.new ≡ S.faults_of source.old }
-
-    // Nothing is opened where the words are outside the grammar or name too many images.
+    // The source is read by a replay alone, and nothing is opened where the words are outside the grammar or name too many
+    // images.
+    ensures source_left { (NamesReplay (texts words.now) → ⊥) → S.left source.new ≡ S.left source.old }
+    ensures source_faults { (NamesReplay (texts words.now) → ⊥) → S.faults_of source.new ≡ S.faults_of source.old }
     ensures unopened { (IsWithinLimit (texts words.now) → ⊥) → H.held shelf.new ≡ H.held shelf.old }
     ensures unopened_faults { (IsWithinLimit (texts words.now) → ⊥) → H.faults_of shelf.new ≡ H.faults_of shelf.old }
 
     // When each status comes.
     ensures words { result.0 ≡ 1 → IsCommand (texts words.now) → ⊥ }
     ensures no_command { (IsCommand (texts words.now) → ⊥) → (result.0 ≡ 1) ⊎ (result.0 ≡ 6) ⊎ (result.0 ≡ 9) }
-    ensures limit { result.0 ≡ 10 → IsPastLimit (texts words.now) }
     ensures past_limit { IsPastLimit (texts words.now) → (result.0 ≡ 10) ⊎ (result.0 ≡ 6) ⊎ (result.0 ≡ 9) }
-    ensures within_limit { IsWithinLimit (texts words.now) → IsReported result.0 ⊎ (result.0 ≡ 6) ⊎ (result.0 ≡ 7) ⊎ (result.0 ≡ 9) }
+    ensures assembled { (images : List ImageWord) → IsAssemble (texts words.now) images → length images ≤ MAX_DISKS
+        → IsReported result.0 ⊎ (result.0 ≡ 6) ⊎ (result.0 ≡ 7) ⊎ (result.0 ≡ 9) }
+    ensures replayed { NamesReplay (texts words.now)
+        → IsPlayed result.0 ⊎ IsStopped result.0 ⊎ (result.0 ≡ 6) ⊎ (result.0 ≡ 7) ⊎ (result.0 ≡ 9) }
     ensures write_fault { result.0 ≡ 6 → Rose (K.faults_of sink.old) (K.faults_of sink.new) }
     ensures open_fault { result.0 ≡ 7 → Rose (H.faults_of shelf.old) (H.faults_of shelf.new) }
 
-    // What is printed.
+    // What is printed, and what it says.
     ensures words_line { result.0 ≡ 1 → Adds (K.written sink.old) (K.written sink.new) words_line }
-    ensures limit_line { result.0 ≡ 10 → Adds (K.written sink.old) (K.written sink.new) images_limit_line }
+    ensures limit_line { IsPastLimit (texts words.now) → result.0 ≡ 10 → Adds (K.written sink.old) (K.written sink.new) images_limit_line }
     ensures memory { result.0 ≡ 9 → EndsWithoutMemory (K.written sink.old) (K.written sink.new) (K.faults_of sink.old) (K.faults_of sink.new) }
-    ensures told { IsReported result.0 → (images : List ImageWord) × IsAssemble (texts words.now) images × IsSomeAnd (H.held shelf.new)
+    ensures told { (images : List ImageWord) → IsAssemble (texts words.now) images → IsReported result.0 → IsSomeAnd (H.held shelf.new)
         (Tells H.Held.serials H.Held.sizes H.Held.opening H.Held.log (serials_named images) (K.written sink.old) (K.written sink.new) result.0) }
+    ensures stopped { NamesReplay (texts words.now) → IsStopped result.0 → (stop : Stop)
+        × StopsBy (S.left source.old) (S.left source.new) (S.faults_of source.old) (S.faults_of source.new) stop
+        × (result.0 ≡ stop_status stop) × Adds (K.written sink.old) (K.written sink.new) (stop_line stop) }
+    ensures played { (limit : ℕ) (images : List ImageWord) → IsReplay (texts words.now) limit images → IsPlayed result.0
+        → (script : ScriptState) × TakesScript (S.left source.old) (S.left source.new) script
+        × IsSomeAnd (H.held shelf.new) (PlaysOn H.Held.serials H.Held.sizes H.Held.opening H.Held.log H.Held.faults_of
+        (serials_named images) script limit (K.written sink.old) (K.written sink.new) result.0) }
 {
     image_still(alloc, words, shelf, source, sink)
 }

@@ -1,0 +1,77 @@
+-- The script of a command: the text of a source, or why there is none and the line that says so. Source: this project's own.
+use Rattle.std.specs.Prelude.{◌≡◌, ℕ, ◌+◌, Bool, true, List, ◌++◌, length, codes, Option, ⊤}
+use Rattle.std.specs.Fmt.{decimal}
+use Rattle.array_model.specs.Kept.{ScriptState}
+use Rattle.member_bank.specs.Faults.{Rose}
+use Rattle.run_script.specs.declared.fault.LineKind.{LineKind}
+use Rattle.run_script.specs.declared.fault.LineKind.TheVariants.{Word, Missing, Number, Value, Name, Turns}
+use Rattle.run_script.specs.declared.fault.LimitKind.{LimitKind}
+use Rattle.run_script.specs.declared.fault.LimitKind.TheVariants as limits
+use Rattle.run_script.specs.declared.fault.ScriptFault.{ScriptFault}
+use Rattle.run_script.specs.declared.fault.ScriptFault.TheVariants as faults
+use Rattle.run_script.specs.Grammar.{lines_of}
+use Rattle.run_script.specs.Scripts.{AreRight, IsFirstWrong, orders_in, script_of}
+use Rattle.image_outside.specs.declared.source.TheConstants.{MAX_SOURCE_BYTES}
+use Rattle.image_outside.specs.Outside.{TakesAll, TakesFront}
+use Rattle.image_outside.specs.Endings.{limit_line, memory_line}
+use Rattle.image_run.specs.declared.script.ScriptStop.{ScriptStop}
+use Rattle.image_run.specs.declared.script.ScriptStop.TheVariants.{Memory, Read, Bytes, Line, Limit}
+
+-- a text is a script of operations and turns
+pub record IsScript (text : List ℕ) (script : ScriptState) : Type 0 where
+  pub right : AreRight true (lines_of text) (length (lines_of text))
+  pub script_is : script ≡ script_of (orders_in true (lines_of text))
+
+-- a source was read to its end, and what was left of it is a script
+pub record TakesScript (old new : Option (List ℕ)) (script : ScriptState) : Type 0 where
+  pub text : List ℕ
+  pub taken : TakesAll old new text
+  pub is : IsScript text script
+
+-- a source was read to its end, and this is what is wrong first with what was left of it
+pub record TakesFault (old new : Option (List ℕ)) (fault : ScriptFault) : Type 0 where
+  pub text : List ℕ
+  pub taken : TakesAll old new text
+  pub wrong : IsFirstWrong true (lines_of text) fault
+
+-- the cause of a stop; want of memory has none
+abbrev pub StopsBy : (old new : Option (List ℕ)) (before now : ℕ) → ScriptStop → Type 0
+StopsBy old new before now Memory = ⊤
+StopsBy old new before now Read = Rose before now
+StopsBy old new before now Bytes = TakesFront old new (MAX_SOURCE_BYTES + 1)
+StopsBy old new before now (Line number kind) = TakesFault old new (faults.Line number kind)
+StopsBy old new before now (Limit kind number) = TakesFault old new (faults.Limit kind number)
+
+abbrev pub kind_word : LineKind → List ℕ
+kind_word Word = codes "word"
+kind_word Missing = codes "missing"
+kind_word Number = codes "number"
+kind_word Value = codes "value"
+kind_word Name = codes "name"
+kind_word Turns = codes "turns"
+
+abbrev pub limit_word : LimitKind → List ℕ
+limit_word limits.Images = codes "images"
+limit_word limits.Bytes = codes "bytes"
+limit_word limits.Ops = codes "ops"
+limit_word limits.Asks = codes "asks"
+limit_word limits.Turns = codes "turns"
+limit_word limits.Clients = codes "clients"
+
+-- the number of the line, from 1, and what is wrong with its first wrong word
+abbrev pub script_line : ℕ → LineKind → List ℕ
+script_line number kind = codes "script " ++ (decimal number ++ (codes " " ++ (kind_word kind ++ codes "\n")))
+
+abbrev pub stop_line : ScriptStop → List ℕ
+stop_line Memory = memory_line
+stop_line Read = codes "read fault\n"
+stop_line Bytes = limit_line (codes "bytes") (MAX_SOURCE_BYTES + 1)
+stop_line (Line number kind) = script_line number kind
+stop_line (Limit kind number) = limit_line (limit_word kind) number
+
+abbrev pub stop_status : ScriptStop → ℕ
+stop_status Memory = 9
+stop_status Read = 5
+stop_status Bytes = 10
+stop_status (Line number kind) = 4
+stop_status (Limit kind number) = 10

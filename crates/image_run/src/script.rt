@@ -1,0 +1,134 @@
+//! The script of a command is read from its source.
+ghost use Rattle.std.specs.Prelude.{◌≡◌, ◌≢◌, ◌⊎◌, IfOk, IfErr, OnOk, OnErr};
+ghost use Rattle.member_bank.specs.Faults.{Rose};
+ghost use Rattle.run_script.specs.Within.{IsWithin};
+ghost use Rattle.image_outside.specs.Outside.{Adds, TakesAll};
+ghost use Rattle.image_outside.specs.Endings.{EndsWithoutMemory, limit_line};
+ghost use Rattle.image_run.specs.Scripts.{IsScript, StopsBy, TakesScript, kind_word, limit_word, script_line, stop_line, stop_status};
+
+use array_model::Script;
+use image_outside::{
+    Sink, Source, SourceFault, Status, end, end_without_memory, read_all, write_all,
+};
+use itoa::Buffer;
+use member_bank::Failed;
+use run_script::{LimitKind, LineKind, ScriptFault, parse_script};
+use std::alloc::Global;
+
+/// Why a command has no script.
+#[derive(Clone, Copy, Debug, PartialEq, Eq)]
+pub enum ScriptStop {
+    /// There was no memory.
+    Memory,
+    /// A read failed.
+    Read,
+    /// The source has more bytes than are read.
+    Bytes,
+    /// The number of the first wrong line, from 1, and what is wrong with its first wrong word.
+    Line(u64, LineKind),
+    /// What there is too much of, and the first number past the limit; for clients the client.
+    Limit(LimitKind, u64),
+}
+
+/// Reads a source to its end, and the script that it is.
+pub(crate) fn read_script<S: Source>(alloc: Global, source: &mut S) -> Result<Script, ScriptStop>
+    ensures taken { IfOk result (λ script. TakesScript (S.left source.old) (S.left source.new) script) }
+    ensures within { IfOk result (λ script. IsWithin script) }
+    ensures stopped { IfErr result (λ stop. StopsBy (S.left source.old) (S.left source.new) (S.faults_of source.old) (S.faults_of source.new) stop) }
+{
+    let text = match read_all(alloc, source) {
+        Ok(text) => text,
+        Err(SourceFault::Memory) => return Err(ScriptStop::Memory),
+        Err(SourceFault::Failed) => return Err(ScriptStop::Read),
+        Err(SourceFault::Bytes) => return Err(ScriptStop::Bytes),
+    };
+    match parse_script(alloc, text.as_slice(), true) {
+        Ok(script) => Ok(script),
+        Err(ScriptFault::Memory) => Err(ScriptStop::Memory),
+        Err(ScriptFault::Line(number, kind)) => Err(ScriptStop::Line(number, kind)),
+        Err(ScriptFault::Limit(kind, number)) => Err(ScriptStop::Limit(kind, number)),
+    }
+}
+
+fn kind_word(kind: LineKind) -> &'static [u8]
+    ensures { result.now ≡ kind_word kind }
+{
+    match kind {
+        LineKind::Word => b"word",
+        LineKind::Missing => b"missing",
+        LineKind::Number => b"number",
+        LineKind::Value => b"value",
+        LineKind::Name => b"name",
+        LineKind::Turns => b"turns",
+    }
+}
+
+fn limit_word(kind: LimitKind) -> &'static [u8]
+    ensures { result.now ≡ limit_word kind }
+{
+    match kind {
+        LimitKind::Images => b"images",
+        LimitKind::Bytes => b"bytes",
+        LimitKind::Ops => b"ops",
+        LimitKind::Asks => b"asks",
+        LimitKind::Turns => b"turns",
+        LimitKind::Clients => b"clients",
+    }
+}
+
+/// Writes what is wrong with a line. Takes no memory.
+fn write_line<K: Sink>(sink: &mut K, number: u64, kind: LineKind) -> Result<(), Failed>
+    ensures ok { OnOk result (Adds (K.written sink.old) (K.written sink.new) (script_line number kind)) }
+    ensures err { OnErr result (Rose (K.faults_of sink.old) (K.faults_of sink.new)) }
+{
+    write_all(sink, b"script ")?;
+    write_all(sink, Buffer::new().format(number).as_bytes())?;
+    write_all(sink, b" ")?;
+    write_all(sink, kind_word(kind))?;
+    write_all(sink, b"\n")
+}
+
+/// Writes that a limit is passed. Takes no memory.
+fn write_limit<K: Sink>(sink: &mut K, kind: LimitKind, number: u64) -> Result<(), Failed>
+    ensures ok { OnOk result (Adds (K.written sink.old) (K.written sink.new) (limit_line (limit_word kind) number)) }
+    ensures err { OnErr result (Rose (K.faults_of sink.old) (K.faults_of sink.new)) }
+{
+    write_all(sink, b"limit ")?;
+    write_all(sink, limit_word(kind))?;
+    write_all(sink, b" ")?;
+    write_all(sink, Buffer::new().format(number).as_bytes())?;
+    write_all(sink, b"\n")
+}
+
+/// The status where lines were written, or that of a write fault.
+fn status_after(written: Result<(), Failed>, status: Status) -> Status
+    ensures ok { OnOk written (result ≡ status) }
+    ensures err { OnErr written (result.0 ≡ 6) }
+{
+    match written {
+        Ok(()) => status,
+        Err(Failed) => Status::WRITE_FAULT,
+    }
+}
+
+/// Ends where there is no script.
+pub(crate) fn end_stopped<K: Sink>(sink: &mut K, stop: ScriptStop) -> Status
+    ensures either { (result.0 ≡ stop_status stop) ⊎ (result.0 ≡ 6) }
+    ensures lines { result.0 ≡ stop_status stop → result.0 ≢ 9 → Adds (K.written sink.old) (K.written sink.new) (stop_line stop) }
+    ensures memory { result.0 ≡ 9 → EndsWithoutMemory (K.written sink.old) (K.written sink.new) (K.faults_of sink.old) (K.faults_of sink.new) }
+    ensures fault { result.0 ≡ 6 → Rose (K.faults_of sink.old) (K.faults_of sink.new) }
+{
+    match stop {
+        ScriptStop::Memory => end_without_memory(sink),
+        ScriptStop::Read => end(sink, b"read fault\n", Status::READ_FAULT),
+        ScriptStop::Bytes => end(sink, b"limit bytes 8388609\n", Status::LIMIT),
+        ScriptStop::Line(number, kind) => status_after(
+            write_line(sink, number, kind),
+            Status::SCRIPT,
+        ),
+        ScriptStop::Limit(kind, number) => status_after(
+            write_limit(sink, kind, number),
+            Status::LIMIT,
+        ),
+    }
+}
