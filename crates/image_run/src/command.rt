@@ -16,7 +16,7 @@ ghost use Rattle.image_run.specs.declared.script.ScriptStop.{ScriptStop as Stop}
 use crate::assembling::assemble_images;
 use crate::replaying::replay_images;
 use image_outside::{Shelf, Sink, Source, Status, end, end_without_memory};
-use image_words::{Verb, WordsFault, parse};
+use image_words::{Command, Verb, WordsFault, parse};
 use std::alloc::Global;
 
 /// Runs a command that waits for nobody.
@@ -78,10 +78,12 @@ pub fn image_still<H: Shelf, S: Source, K: Sink>(
         Err(WordsFault::Words) => return end(sink, b"words\n", Status::WORDS),
         Err(WordsFault::Images) => return end(sink, b"limit images 17\n", Status::LIMIT),
     };
-    let images = command.images.as_slice();
-    match command.verb {
-        Verb::Assemble => assemble_images(alloc, images, shelf, sink),
-        Verb::Replay { limit } => replay_images(alloc, images, limit, shelf, source, sink),
+    let Command { verb, images } = command;
+    match verb {
+        Verb::Assemble => assemble_images(alloc, images.as_slice(), shelf, sink),
+        Verb::Replay { limit } => {
+            replay_images(alloc, images.as_slice(), limit, shelf, source, sink)
+        }
     }
 }
 
