@@ -4,6 +4,8 @@
 mod buffer;
 mod bytes;
 mod fault;
+mod fields;
+mod places;
 #[cfg(test)]
 mod tests;
 
