@@ -14,7 +14,7 @@ use Rattle.imsm_base.proofs.Spliced.{set-lengths}
 use Rattle.imsm_base.proofs.Edited.{fields_of}
 use Rattle.imsm_buffer.specs.Places.{disk_place, volume_place, with_pass_at}
 use Rattle.imsm_buffer.proofs.Replaced.{replaced, replaced-front, replaced-behind, replaced-between, replaced-field, length-changed_at, all-changed_at, all-at}
-use Rattle.imsm_buffer.proofs.Tables.{before_disk, behind_disk, disk_laid, disk_around, disk_placed, before_volume, behind_volume, volume_laid, volume_around, volume_placed, before_map, behind_map, map_laid, map_around, map_placed, HasFields}
+use Rattle.imsm_buffer.proofs.Around.{before_disk, behind_disk, disk_laid, disk_around, disk_placed, before_volume, behind_volume, volume_laid, volume_around, volume_placed, before_map, behind_map, map_laid, map_around, map_placed, HasFields}
 
 -- A RECORD'S FIELD
 

@@ -13,7 +13,7 @@ use Rattle.imsm_codec.specs.Laid.{IsLaid}
 use Rattle.imsm_codec.specs.Mpb.{volume_at, map_at, blank_volume}
 use Rattle.imsm_buffer.specs.Places.{volume_place, map_place}
 use Rattle.imsm_buffer.proofs.Replaced.{all-at}
-use Rattle.imsm_buffer.proofs.Tables.{before_volume, behind_volume, volume_around, volume_placed, before_map, behind_map, map_around, map_placed, fields_in}
+use Rattle.imsm_buffer.proofs.Around.{before_volume, behind_volume, volume_around, volume_placed, before_map, behind_map, map_around, map_placed, fields_in}
 
 -- what is laid is a block
 pub block_is : (bytes : List ℕ) → IsLaid bytes → IsBlock (block_in bytes)
