@@ -1,19 +1,19 @@
 -- What an edit of the owned bytes leaves is the edited block, laid end to end.
-use Rattle.std.proofs.Common.{◌≡◌, ◌≢◌, ℕ, ◌+◌, ◌-◌, ◌*◌, ◌/◌, ◌%◌, ◌^◌, ◌≤◌, ◌<◌, List, [], ◌∷◌, ◌++◌, length, take, drop, get_or, refl, sym, ◌∙◌, ap, subst, arith}
+use Rattle.std.proofs.Common.{◌≡◌, ◌≢◌, ℕ, ◌+◌, ◌*◌, ◌/◌, ◌%◌, ◌^◌, ◌≤◌, ◌<◌, List, [], ◌++◌, length, take, drop, get_or, refl, sym, ◌∙◌, ap, subst, arith}
 use Rattle.std.specs.List.{concat}
 use Rattle.std.specs.Global.{Vec}
 use Rattle.std.specs.Vec.{with_items}
-use Rattle.std.proofs.lemmas.List.{with_items_is}
+use Rattle.std.proofs.lemmas.List.{with_items_is, length-append}
 use Rattle.byteorder.specs.Endian.{little_bytes}
 use Rattle.imsm_base.specs.declared.bounds.TheConstants.{MAX_BLOCK_BYTES, MAX_DISKS}
 use Rattle.imsm_base.specs.Fields.{Part, number_at, with_number_at}
-use Rattle.imsm_base.specs.Layout.{Block, Volume, Map, Spells, HasLengths, IsMap, IsVolume, IsBlock, disk_lengths, size_of, disk_count_of, volume_count_of, map_count_of, member_count_of, map_bytes, volume_bytes, bytes_of}
-use Rattle.imsm_base.specs.Volumes.{blank_map}
+use Rattle.imsm_base.specs.Layout.{Block, Volume, Map, Spells, HasLengths, IsMap, IsVolume, IsBlock, disk_lengths, size_of, disk_count_of, volume_count_of, map_count_of, member_count_of, map_bytes, volume_bytes, bytes_of, migration_state_of}
+use Rattle.imsm_base.specs.Volumes.{blank_map, first_map}
 use Rattle.imsm_base.specs.Parts.{block_in, maps_room, map_room, volume_room}
 use Rattle.imsm_base.specs.Edits.{with_field}
-use Rattle.imsm_base.specs.EditsOfTables.{with_volume, with_map, block_with_status, map_with_order, block_with_order, map_with_state, block_with_state, volume_with_name, block_with_name, volume_with_pass, block_with_pass, block_with_disk}
+use Rattle.imsm_base.specs.EditsOfTables.{with_volume, with_map, block_with_status, map_with_order, block_with_order, map_with_state, block_with_state, volume_with_name, block_with_name, volume_with_pass, block_with_pass, block_with_disk, volume_with_migration, block_with_migration, volume_without_migration, block_without_migration}
 use Rattle.imsm_base.proofs.Apart.{laid_apart, length-disks}
-use Rattle.imsm_base.proofs.Joined.{block_in-spelled}
+use Rattle.imsm_base.proofs.Joined.{block_in-spelled, length-volume_bytes}
 use Rattle.imsm_base.proofs.Spliced.{set-lengths}
 use Rattle.imsm_base.proofs.Edited.{other_field}
 use Rattle.imsm_codec.specs.Mpb.{volume_at, map_at, blank_volume}
@@ -23,7 +23,7 @@ use Rattle.imsm_buffer.proofs.Kept.{laid_as}
 use Rattle.imsm_buffer.proofs.Replaced.{replaced, length-replaced, all-at}
 use Rattle.imsm_buffer.proofs.Around.{with_disk-is, with_volume-is, before_volume, behind_volume, volume_laid, volume_around, volume_placed, fields_in}
 use Rattle.imsm_buffer.proofs.FieldEdits.{disk_field_laid, in_volume, device_put, pass_put, pass-is, in_map, map_field_put, entry_put, with_map-is, order-is, map_state-is, name-is}
-use Rattle.imsm_buffer.proofs.TableEdits.{with_disk_more-is, disk_laid_more, length-disk_more}
+use Rattle.imsm_buffer.proofs.TableEdits.{with_disk_more-is, disk_laid_more, length-disk_more, opened_laid, closed_laid, opened-is, closed-is, opened-room, closed-room, closed_maps, opened_maps}
 use Rattle.imsm_buffer.proofs.Placed.{block_is, volume_is, maps_inside}
 
 -- the bytes after an edit, as the buffer's clauses say it
@@ -229,3 +229,91 @@ add_done old after added read capacity more room count s disk view kept grows fe
 pub disks_read : (old read : List ℕ) (count : ℕ) → count ≡ number_at 1 56 read → read ≡ old → count ≡ disk_count_of (block_in old)
 unfolding block_in
 disks_read old read count counted same = counted ∙ ap (number_at 1 56) same
+
+-- A MIGRATION
+
+-- where the bytes around a volume are left
+around_done : (old after : List ℕ) (capacity more room k : ℕ) (s : Buffer) (f : Volume → Volume) → seen_as old room ≡ s → IsKept old room capacity → capacity ≤ more → k < volume_count_of (block_in old) →
+    after ≡ before_volume k (block_in old) ++ (volume_bytes (f (volume_at k (block_in old))) ++ behind_volume k (block_in old)) → IsVolume (f (volume_at k (block_in old))) →
+    length old + volume_room (f (volume_at k (block_in old))) ≤ room + volume_room (volume_at k (block_in old)) → IsMade after more room s (with_volume k f)
+around_done old after capacity more room k s f view kept grows below is new fits =
+    let b : Block = block_in old in
+    let x : Volume = volume_at k b in
+    let block : IsBlock b = block_is old kept.laid in
+    let volume : IsVolume x = volume_is old k kept.laid below in
+    let within : k < length b.volumes = omega (arith, block.volume_count) in
+    let before : List ℕ = before_volume k b in
+    let behind : List ℕ = behind_volume k b in
+    let old_length : length old ≡ length (before ++ (volume_bytes x ++ behind)) = ap (λ (y : List ℕ). length y) (laid_apart old ∙ volume_around k b blank_volume within) in
+    let new_length : length after ≡ length (before ++ (volume_bytes (f x) ++ behind)) = ap (λ (y : List ℕ). length y) is in
+    made old after capacity more room s (with_volume k f) view kept grows (is ∙ sym (volume_laid k f b blank_volume within))
+    (
+    omega (
+      arith,
+      length-append before (volume_bytes x ++ behind),
+      length-append (volume_bytes x) behind,
+      length-append before (volume_bytes (f x) ++ behind),
+      length-append (volume_bytes (f x)) behind,
+      length-volume_bytes x volume,
+      length-volume_bytes (f x) new,
+    )
+    )
+    (with_volume-is k f b blank_volume block new) kept.laid.size
+
+state_of : (old : List ℕ) (room k : ℕ) (s : Buffer) (P : ℕ → Type 0) → seen_as old room ≡ s → P (migration_state_of (volume_at k (parts_of s))) → P (migration_state_of (volume_at k (block_in old)))
+state_of old room k s P view there = subst (λ (x : Buffer). P (migration_state_of (volume_at k (parts_of x)))) (sym view) there
+
+-- what the code read of a map's size
+map_size_of : (old read : List ℕ) (k m len : ℕ) → read ≡ old → len ≡ map_room (map_at m (volume_at k (block_in read))) → len ≡ map_room (map_at m (volume_at k (block_in old)))
+map_size_of old read k m len same size = size ∙ ap (λ (x : List ℕ). map_room (map_at m (volume_at k (block_in x)))) same
+
+pub open_done : (old after read second : List ℕ) (capacity more room k volume len : ℕ) (s : Buffer) → seen_as old room ≡ s → IsKept old room capacity → capacity ≤ more → k < volume_count_of (parts_of s) →
+    migration_state_of (volume_at k (parts_of s)) ≡ 0 → length old + len ≤ room → read ≡ old → IsVolumePlace volume k read → second ≡ old → len ≡ map_room (map_at 0 (volume_at k (block_in second))) →
+    after ≡ with_number_at 1 (volume + 88) 1 (take (volume + 112 + len) old ++ drop (volume + 112) old) → IsMade after more room s (λ b. block_with_migration b k)
+open_done old after read second capacity more room k volume len s view kept grows there closed fits same placed again size put =
+    let b : Block = block_in old in
+    let x : Volume = volume_at k b in
+    let block : IsBlock b = block_is old kept.laid in
+    let below : k < volume_count_of b = subst (λ (y : Buffer). k < volume_count_of (parts_of y)) (sym view) there in
+    let idle : migration_state_of x ≡ 0 = state_of old room k s (λ n. n ≡ 0) view closed in
+    let here : IsVolumePlace volume k old = subst (IsVolumePlace volume k) same placed in
+    let is : IsVolume x = volume_is old k kept.laid below in
+    let room_of_map : len ≡ map_room (first_map x) = map_size_of old second k 0 len again size in
+    let laid : after ≡ before_volume k b ++ (volume_bytes (volume_with_migration x) ++ behind_volume k b) =
+    put ∙ opened_laid (before_volume k b) (behind_volume k b) old x volume len is idle (volume_placed k b block ∙ sym here.place) room_of_map
+    (laid_apart old ∙ volume_around k b blank_volume (omega (arith, block.volume_count))) in
+    around_done old after capacity more room k s volume_with_migration view kept grows below laid (opened-is x is) (omega (arith, opened-room x is idle))
+
+pub close_done : (old after read third : List ℕ) (fourth : List ℕ) (capacity more room k volume second len : ℕ) (s : Buffer) → seen_as old room ≡ s → IsKept old room capacity → capacity ≤ more → k < volume_count_of (parts_of s) →
+    migration_state_of (volume_at k (parts_of s)) ≢ 0 → read ≡ old → IsVolumePlace volume k read → third ≡ old → IsMapPlace second k 1 third → fourth ≡ old → len ≡ map_room (map_at 1 (volume_at k (block_in fourth))) →
+    after ≡ with_pass_at volume 0 0 0 (with_number_at 1 (volume + 88) 0 (take second old ++ drop (second + len) old)) → IsMade after more room s (λ b. block_without_migration b k)
+close_done old after read third fourth capacity more room k volume second len s view kept grows there opened same placed again map last size put =
+    let b : Block = block_in old in
+    let x : Volume = volume_at k b in
+    let block : IsBlock b = block_is old kept.laid in
+    let below : k < volume_count_of b = subst (λ (y : Buffer). k < volume_count_of (parts_of y)) (sym view) there in
+    let busy : migration_state_of x ≢ 0 = state_of old room k s (λ n. n ≢ 0) view opened in
+    let here : IsVolumePlace volume k old = subst (IsVolumePlace volume k) same placed in
+    let behind : IsMapPlace second k 1 old = subst (IsMapPlace second k 1) again map in
+    let place = here.place in
+    let at = behind.place in
+    let is : IsVolume x = volume_is old k kept.laid below in
+    let fits = kept.fits in
+    let taken : maps_room (take 1 x.maps) ≡ map_room (first_map x) = ap (λ (ms : List Map). maps_room (take 1 ms)) (opened_maps x is busy) ∙ omega arith in
+    let laid : after ≡ before_volume k b ++ (volume_bytes (volume_without_migration x) ++ behind_volume k b) =
+    put ∙ closed_laid (before_volume k b) (behind_volume k b) old x volume second len is busy (volume_placed k b block ∙ sym here.place) (omega arith) (map_size_of old fourth k 1 len last size)
+    (laid_apart old ∙ volume_around k b blank_volume (omega (arith, block.volume_count))) in
+    around_done old after capacity more room k s volume_without_migration view kept grows below laid (closed-is x is) (omega (arith, closed-room x is busy))
+
+-- the one map ends inside
+pub open_inside : (old read second : List ℕ) (capacity room k volume len : ℕ) (s : Buffer) → seen_as old room ≡ s → IsKept old room capacity → k < volume_count_of (parts_of s) →
+    migration_state_of (volume_at k (parts_of s)) ≡ 0 → read ≡ old → IsVolumePlace volume k read → second ≡ old → len ≡ map_room (map_at 0 (volume_at k (block_in second))) →
+    volume + 112 + len ≤ length old
+open_inside old read second capacity room k volume len s view kept there closed same placed again size =
+    let x : Volume = volume_at k (block_in old) in
+    let below : k < volume_count_of (block_in old) = subst (λ (y : Buffer). k < volume_count_of (parts_of y)) (sym view) there in
+    let idle : migration_state_of x ≡ 0 = state_of old room k s (λ n. n ≡ 0) view closed in
+    let here : IsVolumePlace volume k old = subst (IsVolumePlace volume k) same placed in
+    let inside = here.inside in
+    let room_of_map : len ≡ map_room (first_map x) = map_size_of old second k 0 len again size in
+    omega (arith, opened-room x (volume_is old k kept.laid below) idle, ap maps_room (closed_maps x (volume_is old k kept.laid below) idle))

@@ -71,7 +71,7 @@ state_step before behind y w v k place is there inside long at laid =
     ∙ replaced-between before (volume_bytes v) behind w place (80 + total (take k state_lengths)) (get_or state_lengths k 0) at (omega arith)
     ∙ ap (λ (x : List ℕ). before ++ (x ++ behind)) (state_put v k w is there inside)
 
-volume_long : (v : Volume) → HasFields v → 112 ≤ length (volume_bytes v)
+pub volume_long : (v : Volume) → HasFields v → 112 ≤ length (volume_bytes v)
 volume_long v is =
     omega (
       arith,

@@ -1,7 +1,7 @@
 -- The bytes of a new block are laid out as one.
-use Rattle.std.proofs.Common.{◌≡◌, ℕ, ◌*◌, ◌≤◌, List, length, refl, sym, ◌∙◌, ap, subst, arith, lit≤}
+use Rattle.std.proofs.Common.{◌≡◌, ℕ, ◌≤◌, List, length, refl, ap, arith, lit≤}
 use Rattle.imsm_base.specs.declared.bounds.TheConstants.{MAX_BLOCK_BYTES}
-use Rattle.imsm_base.specs.Layout.{IsBlock, Spells, bytes_of}
+use Rattle.imsm_base.specs.Layout.{IsBlock, bytes_of}
 use Rattle.imsm_base.specs.Parts.{block_in}
 use Rattle.imsm_base.specs.EditsOfTables.{new_block}
 use Rattle.imsm_base.proofs.Joined.{block_in-spelled}

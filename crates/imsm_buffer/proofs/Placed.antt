@@ -50,7 +50,7 @@ map_inside bytes v m laid volume map inside =
     omega (arith, maps_inside m (volume_at v (block_in bytes)).maps blank_map (omega (arith, is.count)))
 
 -- what stands at a map's place begins with the map
-map_found : (bytes : List ℕ) (v m : ℕ) → IsLaid bytes → v < volume_count_of (block_in bytes) → m < map_count_of (volume_at v (block_in bytes)) →
+pub map_found : (bytes : List ℕ) (v m : ℕ) → IsLaid bytes → v < volume_count_of (block_in bytes) → m < map_count_of (volume_at v (block_in bytes)) →
     map_in (drop (map_place v m (block_in bytes)) bytes) ≡ map_at m (volume_at v (block_in bytes))
 map_found bytes v m laid volume map =
     let b : Block = block_in bytes in

@@ -1,26 +1,26 @@
 -- Runs of bytes that are put in or taken out at the place of a part make the bytes of the block with that part put in or
 -- taken out.
-use Rattle.std.proofs.Common.{◌≡◌, ◌≢◌, ℕ, zero, suc, ◌+◌, ◌-◌, ◌*◌, ◌/◌, ◌%◌, ◌^◌, ◌≤◌, ◌<◌, ◌==◌, if◌then◌else◌, List, [], ◌∷◌, ◌++◌, length, map, take, drop, get_or, set, replicate, refl, sym, ◌∙◌, ap, subst, arith}
+use Rattle.std.proofs.Common.{◌≡◌, ◌≢◌, ℕ, zero, suc, ◌+◌, ◌≤◌, ◌<◌, ◌==◌, if◌then◌else◌, Bool, true, false, List, [], ◌∷◌, ◌++◌, length, take, drop, get_or, refl, sym, ◌∙◌, ap, arith}
 use Rattle.std.specs.List.{concat, flat_map, AllByRecursion}
 use Rattle.std.proofs.lemmas.List.{append_assoc, append-nil, take_at, drop_at, length-append, get_or-set_same}
+use Rattle.std.proofs.Math.Dec.{eqb-suc-zero}
 use Rattle.std.proofs.lemmas.Grind.{flat_map-append}
 use Rattle.byteorder.specs.Endian.{little_bytes}
 use Rattle.byteorder.specs.Numbers.{little_number-reads_back}
-use Rattle.imsm_base.specs.declared.bounds.TheConstants.{MAX_DISKS}
-use Rattle.imsm_base.specs.Fields.{Part, number, number_at, with_number_at}
-use Rattle.imsm_base.specs.Layout.{Block, Volume, Map, HasLengths, IsMap, IsVolume, IsBlock, header_lengths, disk_lengths, device_lengths, state_lengths, map_lengths, member_count_of, migration_state_of, map_count_of, map_bytes, volume_bytes, bytes_of}
+use Rattle.imsm_base.specs.Fields.{Part, number, with_number_at}
+use Rattle.imsm_base.specs.Layout.{Block, Volume, Map, HasLengths, IsMap, IsVolume, IsBlock, header_lengths, disk_lengths, device_lengths, state_lengths, migration_state_of, map_bytes, volume_bytes, bytes_of}
 use Rattle.imsm_base.specs.Parts.{volume_room, maps_room, map_room}
 use Rattle.imsm_base.specs.Volumes.{blank_map, first_map}
 use Rattle.imsm_base.specs.Edits.{with_field}
 use Rattle.imsm_base.specs.EditsOfTables.{counting_disks, block_with_disk, volume_with_migration, volume_without_migration}
-use Rattle.imsm_base.proofs.Cut.{total, length-part}
-use Rattle.imsm_base.proofs.Joined.{length-disks_bytes, length-volume_bytes, length-bytes_of}
+use Rattle.imsm_base.proofs.Cut.{length-part}
+use Rattle.imsm_base.proofs.Joined.{length-disks_bytes, length-bytes_of, length-map_bytes}
 use Rattle.imsm_base.proofs.Spliced.{set-lengths}
 use Rattle.imsm_base.proofs.Edited.{fields_of, other_field}
-use Rattle.imsm_buffer.specs.Places.{disk_place, volume_place, with_pass_at}
-use Rattle.imsm_buffer.proofs.Replaced.{replaced, replaced-front, replaced-field}
+use Rattle.imsm_buffer.specs.Places.{disk_place, with_pass_at}
+use Rattle.imsm_buffer.proofs.Replaced.{replaced, replaced-front, replaced-field, all-at}
 use Rattle.imsm_buffer.proofs.Around.{HasFields, fields_in}
-use Rattle.imsm_buffer.proofs.FieldEdits.{state_step, state_as, pass_put, pass-is}
+use Rattle.imsm_buffer.proofs.FieldEdits.{state_step, pass_put, pass-is, state_kept, volume_long}
 
 -- A RUN OF BYTES
 
@@ -103,3 +103,152 @@ length-disk_more b disk is new =
       length-append b.disks (disk ∷ []),
       other_field b 8 13 (little_bytes 1 (length b.disks + 1)) (λ e. omega arith),
     )
+
+-- A MIGRATION
+
+one_map : (ms : List Map) → length ms ≡ 1 → ms ≡ get_or ms 0 blank_map ∷ []
+one_map [] len = absurd (omega arith)
+one_map (m ∷ []) len = refl
+one_map (m ∷ (n ∷ ms)) len = absurd (omega arith)
+
+two_maps : (ms : List Map) → length ms ≡ 2 → ms ≡ get_or ms 0 blank_map ∷ get_or ms 1 blank_map ∷ []
+two_maps [] len = absurd (omega arith)
+two_maps (m ∷ []) len = absurd (omega arith)
+two_maps (m ∷ (n ∷ [])) len = refl
+two_maps (m ∷ (n ∷ (o ∷ ms))) len = absurd (omega arith)
+
+pub closed_maps : (v : Volume) → IsVolume v → migration_state_of v ≡ 0 → v.maps ≡ first_map v ∷ []
+closed_maps v is closed = one_map v.maps (is.count ∙ ap (λ (n : ℕ). if n == 0 then 1 else 2) closed)
+
+abbrev maps_for : Bool → ℕ
+maps_for idle = if idle then 1 else 2
+
+count_open : (n : ℕ) → n ≢ 0 → maps_for (n == 0) ≡ 2
+count_open zero busy = absurd (busy refl)
+count_open (suc n) busy = ap maps_for (eqb-suc-zero n)
+
+pub opened_maps : (v : Volume) → IsVolume v → migration_state_of v ≢ 0 → v.maps ≡ first_map v ∷ get_or v.maps 1 blank_map ∷ []
+opened_maps v is opened = two_maps v.maps (is.count ∙ count_open (migration_state_of v) opened)
+
+-- a volume with these maps
+abbrev with_maps : List Map → Volume → Volume
+with_maps ms v = record v { maps = ms }
+
+front_bytes : Volume → List ℕ
+front_bytes v = concat v.device ++ concat v.state
+
+maps_kept : (v : Volume) (ms : List Map) → HasFields v → AllByRecursion IsMap ms → HasFields (with_maps ms v)
+maps_kept v ms is all = record { device = is.device; state = is.state; maps = all }
+
+-- bytes around a volume, where its one map is put in again
+map_again : (before behind y : List ℕ) (v : Volume) (at n : ℕ) → HasFields v → v.maps ≡ first_map v ∷ [] → length before + 112 ≡ at → length (map_bytes (first_map v)) ≡ n →
+    y ≡ before ++ (volume_bytes v ++ behind) → take (at + n) y ++ drop at y ≡ before ++ (volume_bytes (with_maps (first_map v ∷ first_map v ∷ []) v) ++ behind)
+map_again before behind y v at n is one place size laid =
+    let D : List ℕ = concat v.device in
+    let S : List ℕ = concat v.state in
+    let M : List ℕ = map_bytes (first_map v) in
+    let apart : y ≡ (before ++ (D ++ S)) ++ (M ++ behind) =
+    laid ∙ ap (λ (ms : List Map). before ++ ((D ++ (S ++ flat_map map_bytes ms)) ++ behind)) one ∙ regrouped before D S M behind in
+    put_again (before ++ (D ++ S)) M behind y at n
+    (omega (arith, length-append before (D ++ S), length-append D S, length-part device_lengths v.device is.device, length-part state_lengths v.state is.state)) size apart
+    ∙ joined before D S M behind
+  where
+    regrouped : (b d s m r : List ℕ) → b ++ ((d ++ (s ++ (m ++ []))) ++ r) ≡ (b ++ (d ++ s)) ++ (m ++ r)
+    regrouped b d s m r = simp (append_assoc, append-nil)
+
+    joined : (b d s m r : List ℕ) → (b ++ (d ++ s)) ++ (m ++ (m ++ r)) ≡ b ++ ((d ++ (s ++ (m ++ (m ++ [])))) ++ r)
+    joined b d s m r = simp (append_assoc, append-nil)
+
+-- and where the second of two is taken out
+map_out : (before behind y : List ℕ) (v : Volume) (m : Map) (at n : ℕ) → HasFields v → v.maps ≡ first_map v ∷ m ∷ [] → (length before + 112) + length (map_bytes (first_map v)) ≡ at → length (map_bytes m) ≡ n →
+    y ≡ before ++ (volume_bytes v ++ behind) → take at y ++ drop (at + n) y ≡ before ++ (volume_bytes (with_maps (first_map v ∷ []) v) ++ behind)
+map_out before behind y v m at n is two place size laid =
+    let D : List ℕ = concat v.device in
+    let S : List ℕ = concat v.state in
+    let M : List ℕ = map_bytes (first_map v) in
+    let N : List ℕ = map_bytes m in
+    let apart : y ≡ (before ++ (D ++ (S ++ M))) ++ (N ++ behind) =
+    laid ∙ ap (λ (ms : List Map). before ++ ((D ++ (S ++ flat_map map_bytes ms)) ++ behind)) two ∙ regrouped before D S M N behind in
+    taken_between (before ++ (D ++ (S ++ M))) N behind y at n
+    (omega (arith, length-append before (D ++ (S ++ M)), length-append D (S ++ M), length-append S M, length-part device_lengths v.device is.device, length-part state_lengths v.state is.state)) size apart
+    ∙ joined before D S M behind
+  where
+    regrouped : (b d s m n r : List ℕ) → b ++ ((d ++ (s ++ (m ++ (n ++ [])))) ++ r) ≡ (b ++ (d ++ (s ++ m))) ++ (n ++ r)
+    regrouped b d s m n r = simp (append_assoc, append-nil)
+
+    joined : (b d s m r : List ℕ) → (b ++ (d ++ (s ++ m))) ++ r ≡ b ++ ((d ++ (s ++ (m ++ []))) ++ r)
+    joined b d s m r = simp (append_assoc, append-nil)
+
+first_is : (v : Volume) → IsVolume v → 0 < length v.maps → IsMap (first_map v)
+first_is v is some = all-at IsMap 0 v.maps blank_map is.maps some
+
+some_map : (v : Volume) → IsVolume v → 0 < length v.maps
+some_map v is = omega (arith, is.count, counted_maps (migration_state_of v == 0))
+  where
+    counted_maps : (idle : Bool) → 0 < maps_for idle
+    counted_maps true = omega arith
+    counted_maps false = omega arith
+
+pub opened_laid : (before behind y : List ℕ) (v : Volume) (volume n : ℕ) → IsVolume v → migration_state_of v ≡ 0 → length before ≡ volume → n ≡ map_room (first_map v) →
+    y ≡ before ++ (volume_bytes v ++ behind) →
+    with_number_at 1 (volume + 88) 1 (take (volume + 112 + n) y ++ drop (volume + 112) y) ≡ before ++ (volume_bytes (volume_with_migration v) ++ behind)
+opened_laid before behind y v volume n is closed place size laid =
+    let m : Map = first_map v in
+    let ism : IsMap m = first_is v is (some_map v is) in
+    let kept : HasFields (with_maps (m ∷ m ∷ []) v) = maps_kept v (m ∷ m ∷ []) (fields_in v is) (ism, (ism, tt)) in
+    state_step before behind _ (little_bytes 1 1) (with_maps (m ∷ m ∷ []) v) 2 (volume + 88) kept (omega arith) (omega arith) (volume_long (with_maps (m ∷ m ∷ []) v) kept) (omega arith)
+    (map_again before behind y v (volume + 112) n (fields_in v is) (closed_maps v is closed) (omega arith) (length-map_bytes m ism ∙ sym size) laid)
+
+pub closed_laid : (before behind y : List ℕ) (v : Volume) (volume second n : ℕ) → IsVolume v → migration_state_of v ≢ 0 → length before ≡ volume → second ≡ volume + (112 + map_room (first_map v)) →
+    n ≡ map_room (get_or v.maps 1 blank_map) → y ≡ before ++ (volume_bytes v ++ behind) →
+    with_pass_at volume 0 0 0 (with_number_at 1 (volume + 88) 0 (take second y ++ drop (second + n) y)) ≡ before ++ (volume_bytes (volume_without_migration v) ++ behind)
+closed_laid before behind y v volume second n is opened place at size laid =
+    let m : Map = first_map v in
+    let two = opened_maps v is opened in
+    let len : length v.maps ≡ 2 = ap (λ (ms : List Map). length ms) two in
+    let ism : IsMap m = first_is v is (omega arith) in
+    let isn : IsMap (get_or v.maps 1 blank_map) = all-at IsMap 1 v.maps blank_map is.maps (omega arith) in
+    let w : Volume = with_maps (m ∷ []) v in
+    let kept : HasFields w = maps_kept v (m ∷ []) (fields_in v is) (ism, tt) in
+    let idle : Volume = record w { state = with_field 2 (little_bytes 1 0) w.state } in
+    pass_put before behind _ idle volume 0 0 0 (state_kept w 2 (little_bytes 1 0) kept refl) (sym place)
+    (
+    state_step before behind _ (little_bytes 1 0) w 2 (volume + 88) kept (omega arith) (omega arith) (volume_long w kept) (omega arith)
+    (map_out before behind y v (get_or v.maps 1 blank_map) second n (fields_in v is) two (omega (arith, length-map_bytes m ism)) (length-map_bytes (get_or v.maps 1 blank_map) isn ∙ sym size) laid)
+    )
+
+-- the state says how many maps there are
+state_two : (v : Volume) (n : ℕ) → IsVolume v → n < 256 → number (get_or (with_field 2 (little_bytes 1 n) v.state) 2 []) ≡ n
+state_two v n is below =
+    ap number (get_or-set_same v.state 2 (little_bytes 1 n) [] (omega (arith, fields_of state_lengths v.state is.state))) ∙ number-one n below
+
+pub opened-is : (v : Volume) → IsVolume v → IsVolume (volume_with_migration v)
+opened-is v is =
+    let ism : IsMap (first_map v) = first_is v is (some_map v is) in
+    record {
+      device = is.device;
+      state = set-lengths state_lengths v.state 2 (little_bytes 1 1) is.state refl;
+      count = sym (ap (λ (n : ℕ). if n == 0 then 1 else 2) (state_two v 1 is (omega arith)));
+      maps = (ism, (ism, tt));
+    }
+
+pub closed-is : (v : Volume) → IsVolume v → IsVolume (volume_without_migration v)
+closed-is v is =
+    let m : Map = first_map v in
+    let ism : IsMap m = first_is v is (some_map v is) in
+    let w : Volume = with_maps (m ∷ []) v in
+    let idle : Volume = record w { state = with_field 2 (little_bytes 1 0) w.state } in
+    let one : IsVolume idle = record {
+      device = is.device;
+      state = set-lengths state_lengths v.state 2 (little_bytes 1 0) is.state refl;
+      count = sym (ap (λ (n : ℕ). if n == 0 then 1 else 2) (state_two v 0 is (omega arith)));
+      maps = (ism, tt);
+    } in
+    pass-is idle 0 0 0 one
+
+-- how much room each takes
+pub opened-room : (v : Volume) → IsVolume v → migration_state_of v ≡ 0 → volume_room (volume_with_migration v) ≡ volume_room v + map_room (first_map v)
+opened-room v is closed = omega (arith, ap maps_room (closed_maps v is closed))
+
+pub closed-room : (v : Volume) → IsVolume v → migration_state_of v ≢ 0 → volume_room (volume_without_migration v) ≤ volume_room v
+closed-room v is opened = omega (arith, ap maps_room (opened_maps v is opened))

@@ -1,5 +1,5 @@
 -- A record that is added to a block, as a part of it. Source: struct imsm_disk of super-intel.c.
-use Rattle.std.specs.Prelude.{ℕ, ◌/◌, ◌%◌, ◌^◌, [], ◌∷◌, replicate}
+use Rattle.std.specs.Prelude.{◌/◌, ◌%◌, ◌^◌, [], ◌∷◌, replicate}
 use Rattle.byteorder.specs.Endian.{little_bytes}
 use Rattle.imsm_base.specs.Fields.{Part}
 use Rattle.imsm_buffer.specs.declared.record.DiskRecord.{DiskRecord}

@@ -1,4 +1,4 @@
-use Rattle.std.proofs.Common.{ap, length, List, ℕ, arith}
+use Rattle.std.proofs.Common.{arith}
 use Rattle.imsm_buffer.proofs.Recorded.{record_made, record_lengths}
 use Rattle.imsm_buffer.proofs.tables.record_bytes.Goals as goal
 

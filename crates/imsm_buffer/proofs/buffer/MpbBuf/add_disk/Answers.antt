@@ -1,11 +1,9 @@
-use Rattle.std.proofs.Common.{◌≡◌, ◌<◌, ◌≤◌, ◌+◌, ℕ, List, sym, ap, subst, ◌∙◌, arith}
+use Rattle.std.proofs.Common.{◌<◌, sym, ap, subst, ◌∙◌, arith}
 use Rattle.imsm_base.specs.declared.bounds.TheConstants.{MAX_DISKS}
-use Rattle.imsm_base.specs.Fields.{number_at}
 use Rattle.imsm_base.specs.Layout.{disk_count_of}
-use Rattle.imsm_base.specs.Parts.{block_in}
 use Rattle.imsm_buffer.specs.Buffer.{Buffer, parts_of}
 use Rattle.imsm_buffer.specs.Record.{part_of}
-use Rattle.imsm_buffer.proofs.Done.{IsMade, add_done, disks_read}
+use Rattle.imsm_buffer.proofs.Done.{add_done, disks_read}
 use Rattle.imsm_buffer.proofs.buffer.MpbBuf.add_disk.Goals as goal
 
 pub add_record-requires-clause-inside : goal.add_record-requires-clause-inside

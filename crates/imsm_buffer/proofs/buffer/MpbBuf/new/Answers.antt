@@ -1,4 +1,4 @@
-use Rattle.std.proofs.Common.{ℕ, ◌∙◌, arith}
+use Rattle.std.proofs.Common.{◌∙◌, arith}
 use Rattle.imsm_buffer.proofs.New.{new_kept, new_parts}
 use Rattle.imsm_buffer.proofs.buffer.MpbBuf.new.Goals as goal
 
