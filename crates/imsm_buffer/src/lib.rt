@@ -1,0 +1,17 @@
+//! Metadata blocks that are owned, and edited in place.
+#![tactic(auto)]
+
+mod buffer;
+mod bytes;
+mod fault;
+mod fields;
+mod moves;
+mod places;
+mod record;
+mod tables;
+#[cfg(test)]
+mod tests;
+
+pub use buffer::MpbBuf;
+pub use fault::{CodecFault, NoRoom};
+pub use record::DiskRecord;
