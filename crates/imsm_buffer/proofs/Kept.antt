@@ -17,7 +17,7 @@ use Rattle.imsm_base.proofs.Apart.{spells_apart, length-volumes}
 use Rattle.imsm_base.proofs.Edited.{other_field, generation-spells, dirty-spells, dirty-inside, length-with_generation, length-with_dirty}
 use Rattle.imsm_base.proofs.Sealed.{IsSealed, sealed-spells, sealed-is, length-sized, length-sealed}
 use Rattle.imsm_codec.specs.Laid.{IsLaid}
-use Rattle.imsm_codec.specs.Buffer.{IsKept}
+use Rattle.imsm_buffer.specs.Buffer.{IsKept}
 
 -- what a write through a slice of it leaves in a Vec
 pub written : (v : Vec ℕ) (ws bytes : List ℕ) → ws ≡ bytes → length bytes ≡ length v.items → (with_items v ws).items ≡ bytes

@@ -7,14 +7,12 @@ ghost use Rattle.imsm_base.specs.Whole.{block_sum};
 ghost use Rattle.imsm_base.specs.Edits.{with_generation, dirty_place, with_dirty, sized, sealed, first_sector, block_with_generation, block_with_dirty, block_sealed};
 ghost use Rattle.imsm_codec.specs.Laid.{IsLaid};
 ghost use Rattle.imsm_codec.specs.Mpb.{block_bytes, block_of};
-ghost use Rattle.imsm_codec.specs.Buffer.{parts_of};
+ghost use Rattle.imsm_buffer.specs.Buffer.{parts_of};
 
-use crate::bytes::{get_u8, put_u8};
-use crate::checks::sum_of;
+use crate::bytes::put_u8;
 use crate::fault::{CodecFault, NoRoom};
-use crate::mpb::MpbRef;
-use crate::volume::volume_from;
 use imsm_base::{SECTOR_BYTES, Sector, VolNo, put_u32};
+use imsm_codec::{MpbRef, get_u8, sum_of, volume_from};
 use std::alloc::Global;
 use std::marker::Model;
 
@@ -28,7 +26,7 @@ pub struct MpbBuf {
 
 impl Model for MpbBuf {
     ghost use Rattle.std.specs.Prelude.{vec_capacity};
-    ghost use Rattle.imsm_codec.specs.Buffer.{Buffer, IsKept};
+    ghost use Rattle.imsm_buffer.specs.Buffer.{Buffer, IsKept};
 
     ghost Value = { Buffer };
 
@@ -68,7 +66,7 @@ impl MpbBuf {
         ensures bytes { block_bytes result ≡ self.now.bytes }
         ensures parts { block_of result ≡ parts_of self.now }
     {
-        MpbRef { bytes: &self.bytes }
+        MpbRef::of_laid(&self.bytes)
     }
 
     /// The block's bytes.

@@ -4,9 +4,9 @@ use Rattle.imsm_base.specs.Fields.{number_at}
 use Rattle.imsm_base.specs.Layout.{volume_count_of}
 use Rattle.imsm_base.specs.Parts.{block_in}
 use Rattle.imsm_base.specs.Edits.{with_dirty, block_with_dirty}
-use Rattle.imsm_codec.specs.Buffer.{Buffer, IsKept, parts_of}
-use Rattle.imsm_codec.proofs.Kept.{written, volumes-counted, length-dirty, dirty-kept, dirty-block, dirty-made}
-use Rattle.imsm_codec.proofs.buffer.MpbBuf.set_dirty.Goals as goal
+use Rattle.imsm_buffer.specs.Buffer.{Buffer, IsKept, parts_of}
+use Rattle.imsm_buffer.proofs.Kept.{written, volumes-counted, length-dirty, dirty-kept, dirty-block, dirty-made}
+use Rattle.imsm_buffer.proofs.buffer.MpbBuf.set_dirty.Goals as goal
 
 -- the condition, on the bytes
 there : (s : Buffer) (bytes : List ℕ) (v : ℕ) → v < volume_count_of (parts_of s) → s.bytes ≡ bytes → v < number_at 1 57 bytes

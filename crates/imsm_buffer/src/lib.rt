@@ -1,0 +1,11 @@
+//! Metadata blocks that are owned, and edited in place.
+#![tactic(auto)]
+
+mod buffer;
+mod bytes;
+mod fault;
+#[cfg(test)]
+mod tests;
+
+pub use buffer::MpbBuf;
+pub use fault::{CodecFault, NoRoom};
