@@ -1,2 +1,3 @@
 pub mod Writing
 pub mod Sectors
+pub mod Reading
