@@ -23,7 +23,7 @@ use Rattle.imsm_buffer.specs.Buffer.{IsKept}
 pub written : (v : Vec ℕ) (ws bytes : List ℕ) → ws ≡ bytes → length bytes ≡ length v.items → (with_items v ws).items ≡ bytes
 written v ws bytes is len = with_items_is v ws (ap (λ (x : List ℕ). length x) is ∙ len ∙ sym v.ok.0) ∙ is
 
-laid_as : (bytes : List ℕ) (b : Block) → Spells bytes b → size_of b ≤ MAX_BLOCK_BYTES → IsLaid bytes
+pub laid_as : (bytes : List ℕ) (b : Block) → Spells bytes b → size_of b ≤ MAX_BLOCK_BYTES → IsLaid bytes
 laid_as bytes b s most =
     let same : b ≡ block_in bytes = sym (block_in-spelled bytes b s) in
     record {

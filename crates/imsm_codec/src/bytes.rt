@@ -32,7 +32,7 @@ pub(crate) fn get_name(bytes: &[u8], at: usize) -> [u8; 16]
 }
 
 /// The bytes from a place on, none where it lies past the end.
-pub(crate) fn behind(bytes: &[u8], at: usize) -> &[u8]
+pub fn behind(bytes: &[u8], at: usize) -> &[u8]
     ensures { result.now ≡ drop at bytes.now }
 {
     &bytes[at.min(bytes.len())..]

@@ -19,7 +19,7 @@ mod volume;
 mod whole_disk;
 mod words;
 
-pub use bytes::get_u8;
+pub use bytes::{behind, get_u8};
 pub use checks::{check, sum_of};
 pub use disk::DISK_BYTES;
 pub use fault::MpbFault;
