@@ -195,3 +195,21 @@ other_fault r e is none n given cut =
 
 pub no_fault : {T : Type 0} (r : Result T MpbFault) (x : T) → r ≡ Ok x → (n given : ℕ) → r ≡ Err (Cut n given) → ⊥
 no_fault r x is n given cut = cc
+
+-- where nothing is left and nothing was read, there is no room for metadata
+pub unread_small : (r : Reading) → r.failed ≡ false → places_left r ≡ [] → length r.bytes ≡ 0 → r.sectors < 18
+unread_small r well none empty = by_room r.sectors (r.sectors < 18) (λ few. few) (λ room. absurd (some room)) where
+  no_cons : (p : ℕ) (ps : List ℕ) → p ∷ ps ≡ [] → ⊥
+  no_cons p ps same = cc
+
+  some : 18 ≤ r.sectors → ⊥
+  some room =
+      let first : drop (length r.bytes / 512) (places_of r.sectors r.bytes) ≡ places_of r.sectors r.bytes =
+      ap (λ (n : ℕ). drop (n / 512) (places_of r.sectors r.bytes)) empty in
+      no_cons _ _ (sym first ∙ sym (left_is r well room) ∙ none)
+
+-- nor is a block cut, where nothing is left
+pub left_uncut : (r : Reading) → r.failed ≡ false → 18 ≤ r.sectors → length r.bytes % 512 ≡ 0 → places_left r ≡ [] → IsCut r.bytes → ⊥
+left_uncut r well room whole none cut = no_cons _ _ (sym (left_cut r well room whole cut) ∙ none) where
+  no_cons : (p : ℕ) (ps : List ℕ) → p ∷ ps ≡ [] → ⊥
+  no_cons p ps same = cc

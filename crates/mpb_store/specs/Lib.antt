@@ -1,3 +1,4 @@
 pub mod Writing
 pub mod Sectors
 pub mod Reading
+pub mod Answers

@@ -1,10 +1,13 @@
-//! A metadata block on a disk: how it is written and read, step by step.
+//! A metadata block on a disk: how it is written and read, step by step, and what is found there.
 #![tactic(auto)]
 
+mod answer;
+mod judge;
 mod reading;
 mod sectors;
 mod writing;
 
+pub use answer::{Found, StoreFault};
 pub use reading::{ReadStep, ReadSteps};
 pub use sectors::sectors_of;
 pub use writing::{Step, WriteSteps};

@@ -1,11 +1,16 @@
 //! How a metadata block is read off a disk.
-ghost use Rattle.std.specs.Prelude.{◌≡◌, ◌≢◌, ◌++◌, [], true, false, MatchOption};
-ghost use Rattle.imsm_codec.specs.Given.{size_in};
+ghost use Rattle.std.specs.Prelude.{◌≡◌, ◌≢◌, ◌++◌, ◌≤◌, ◌↔◌, [], true, false, MatchOption, IfSome, length};
+ghost use Rattle.imsm_codec.specs.Given.{size_in, given_block};
+ghost use Rattle.mpb_store.specs.declared.answer.Found.{Found};
+ghost use Rattle.mpb_store.specs.Answers.{IsAnswer, IsPastFront};
 ghost use Rattle.mpb_store.specs.Reading.{IsCut, cut_size_of, places_left, first_read};
 
+use crate::answer::Found;
+use crate::judge::{found_by, judge};
 use crate::writing::extended_count;
 use arrayvec::ArrayVec;
-use imsm_base::{MAX_BLOCK_BYTES, METADATA_SECTORS, SECTOR_BYTES, Sector};
+use imsm_base::{MAX_BLOCK_BYTES, METADATA_SECTORS, SECTOR_BYTES, Sector, Serial};
+use imsm_buffer::MpbBuf;
 use imsm_codec::{MpbFault, check};
 use std::marker::Model;
 
@@ -94,11 +99,35 @@ impl ReadSteps {
     /// Takes what stands at the place that is read next, or that the read failed.
     pub fn fed(&mut self, got: Option<&Sector>)
         requires { places_left self.old ≢ [] }
-        ensures { MatchOption got.entry (self.new ≡ record self.old { failed = true }) (λ s. self.new ≡ record self.old { bytes = self.old.bytes ++ s.now.0 }) }
+        ensures sector { IfSome got.entry (λ s. length s.now.0 ≡ SECTOR_BYTES) }
+        ensures fed { MatchOption got.entry (self.new ≡ record self.old { failed = true }) (λ s. self.new ≡ record self.old { bytes = self.old.bytes ++ s.now.0 }) }
     {
         match got {
             Some(sector) => self.bytes.try_extend_from_slice(&sector.0).unwrap(),
             None => self.failed = true,
+        }
+    }
+
+    /// What is found on the disk, which has this serial: by what was fed, where no read failed. Where the answer is Whole
+    /// the block is put into `into`, and else what stands there isn't said.
+    pub fn end(&self, own: Serial, into: &mut MpbBuf) -> Found
+        requires over { places_left self.now ≡ [] }
+        requires room { MAX_BLOCK_BYTES ≤ into.old.room }
+        // Each answer is given exactly where it is the disk's.
+        ensures answer { (found : Found) → result ≡ found ↔ IsAnswer own.0 self.now found }
+        ensures behind { IsPastFront result }
+        ensures loaded { result ≡ Found.Whole → into.new.bytes ≡ given_block self.now.bytes }
+        ensures room { into.new.room ≡ into.old.room }
+    {
+        if self.failed {
+            return Found::Unread;
+        }
+        match check(self.bytes.as_slice()) {
+            Err(fault) => found_by(fault),
+            Ok(mpb) => {
+                into.load(&mpb).unwrap();
+                judge(&mpb, &own, self.sectors)
+            }
         }
     }
 }
