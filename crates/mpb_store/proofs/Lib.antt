@@ -1,3 +1,5 @@
 mod Filling
 mod Placing
 mod Judged
+mod Followed
+mod Told

@@ -2,12 +2,14 @@
 #![tactic(auto)]
 
 mod answer;
+mod disk;
 mod judge;
 mod reading;
 mod sectors;
 mod writing;
 
 pub use answer::{Found, StoreFault};
+pub use disk::found;
 pub use reading::{ReadStep, ReadSteps};
 pub use sectors::sectors_of;
 pub use writing::{Step, WriteSteps};
