@@ -1,5 +1,5 @@
 //! The metadata block on a disk of a bank.
-ghost use Rattle.std.specs.Prelude.{◌≡◌, ◌<◌, ◌≤◌, ◌↔◌, ◌⊎◌, ℕ, true, Some, IfSome, length, slice_get, slice_index};
+ghost use Rattle.std.specs.Prelude.{◌≡◌, ◌<◌, ◌≤◌, ℕ, true, Some, IfSome, length, slice_get, slice_index};
 ghost use Rattle.imsm_base.specs.declared.bounds.TheConstants.{MAX_BLOCK_BYTES, METADATA_SECTORS};
 ghost use Rattle.imsm_base.specs.declared.units.Serial.{Serial as SerialBytes};
 ghost use Rattle.imsm_base.specs.Whole.{IsWholeDisk};

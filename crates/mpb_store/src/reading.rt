@@ -79,7 +79,8 @@ impl ReadSteps {
     pub fn next(&self) -> ReadStep
         ensures { result ≡ first_read (places_left self.now) }
     {
-        if self.failed || self.sectors < METADATA_SECTORS {
+        let small = self.sectors < METADATA_SECTORS;
+        if self.failed || small {
             return ReadStep::Over;
         }
         let anchor = self.sectors - 2;

@@ -13,7 +13,7 @@ returns-in-Some c =
     let r : Reading = record { sectors = c.self.inside.sectors; bytes = bytes; failed = c.self.inside.failed } in
     let is : r ≡ c.args.self.now = c.self.view_is in
     let cut : IsCut bytes = subst IsCut c.as_slice.ensures.value (c.in-Some.ensures.0) in
-    let left = left_cut r c.if-self.false c.if-self-lt-METADATA_SECTORS.false c.self.invariant.whole cut in
+    let left = left_cut r c.if-self.false c.if-small.false c.self.invariant.whole cut in
     let size : c.in-Some.size ≡ size_in bytes = c.in-Some.ensures.1 ∙ ap size_in c.as_slice.ensures.value in
     let extended : c.from-extended.result ≡ extended_count (size_in bytes) = c.from-extended.ensures ∙ c.extended_count.ensures.count ∙ ap extended_count size in
     let len : c.len.result ≡ length bytes = c.len.ensures.value in
@@ -29,5 +29,5 @@ returns-in-None c =
     let uncut : IsCut bytes → ⊥ = λ cut. c.in-None.ensures (subst IsCut (sym c.as_slice.ensures.value) cut) in
     let empty = sym c.is_empty.ensures ∙ c.if-is_empty.false in
     let some : 0 < length bytes = grind (arith, nat_tests) in
-    let left = left_whole r c.self.invariant.whole some uncut c.if-self.false c.if-self-lt-METADATA_SECTORS.false in
+    let left = left_whole r c.self.invariant.whole some uncut c.if-self.false c.if-small.false in
     sym (ap first_read left) ∙ ap (λ (x : Reading). first_read (places_left x)) is
