@@ -28,4 +28,4 @@ pub use law::views_are_spelled;
 pub use layout::{MAP_BYTES, VOLUME_BYTES, map_len};
 pub use mpb::MpbRef;
 pub use volume::volume_from;
-pub use whole_disk::is_whole_disk;
+pub use whole_disk::{is_whole_disk, own_record};

@@ -32,7 +32,7 @@ fn first_own(mpb: &MpbRef<'_>, own: &Serial, only_expected: bool) -> Option<u8>
 }
 
 /// The record that speaks for the serial: the expected one that has it, else the first that has it.
-fn own_record(mpb: &MpbRef<'_>, own: &Serial) -> Option<u8>
+pub fn own_record(mpb: &MpbRef<'_>, own: &Serial) -> Option<u8>
     ensures { MatchOption result (own_record own.now.0 (block_of mpb.now) ≡ None)
         (λ i. (i < disk_count_of (block_of mpb.now))
         × (own_record own.now.0 (block_of mpb.now) ≡ Some (disk_at i (block_of mpb.now)))) }

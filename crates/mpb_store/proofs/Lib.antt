@@ -1,0 +1,5 @@
+mod Filling
+mod Placing
+mod Judged
+mod Followed
+mod Told

@@ -1,0 +1,5 @@
+pub mod Writing
+pub mod Sectors
+pub mod Reading
+pub mod Answers
+pub mod Banks
