@@ -1,11 +1,12 @@
 -- A reading follows what stands on the disk.
 use Rattle.std.proofs.Common.{◌≡◌, ℕ, zero, suc, ◌+◌, ◌-◌, ◌/◌, ◌%◌, ◌<◌, ◌≤◌, ◌&&◌, ◌⊎◌, inl, inr, Bool, true, false, cond, List, [], ◌∷◌, ◌++◌, length, take, drop, get_or, Option, Some, None, refl, sym, ◌∙◌, ap, subst, arith}
-use Rattle.std.specs.Prelude.{◌==◌, slice_get, slice_index_or}
+use Rattle.std.specs.Prelude.{◌==◌, ◌||◌, not, slice_get, slice_index_or}
 use Rattle.std.specs.List.{AllByRecursion, range_with_len}
 use Rattle.std.specs.Option.{IsSomeAnd}
 use Rattle.std.specs.Str.{bytes_eq}
 use Rattle.std.proofs.lemmas.Bool.{cases_order}
 use Rattle.std.proofs.lemmas.Grind.{flat_map-append}
+use Rattle.std.proofs.lemmas.List.Folds.{list_any-append}
 use Rattle.std.proofs.lemmas.Option.{get_or_from_slice_get}
 use Rattle.std.proofs.lemmas.List.{append-nil, append_assoc, nil_from_length, length-append, length-drop, take_all, take_more, drop_more, take-append-le, drop-append-le}
 use Rattle.std.proofs.lemmas.List.FromFn.{get_or-range_with_len}
@@ -18,7 +19,7 @@ use Rattle.device_log.specs.Cells.{Cell, Stands, cell_after, cell_called, cell_a
 use Rattle.member_bank.specs.Told.{Keeps, Logs, Gives}
 use Rattle.mpb_store.specs.declared.reading.ReadStep.TheVariants.{Read, Over}
 use Rattle.mpb_store.specs.Reading.{Reading, is_size, extended_by, places_of, places_left, first_read, bytes_at}
-use Rattle.mpb_store.specs.Banks.{blank_sector, sector_after, IsRead, IsReadOf, LogsReads, StandsSo, IsReadFrom, bytes_left}
+use Rattle.mpb_store.specs.Banks.{has_failed, blank_sector, sector_after, IsRead, IsReadOf, LogsReads, StandsSo, IsReadFrom, bytes_left}
 use Rattle.mpb_store.proofs.Placing.{extended_few, length-places_of, left_is, left_open, left_below, room_left}
 
 -- THE PLACE THAT IS NEXT
@@ -199,13 +200,20 @@ stands_after n d opening opening' log log' bytes p went told keeps logs o l a b 
     (stands_along n (sector_after o before.0 d) (sector_after o (before.0 ++ call ∷ []) d) bytes
     (λ q. sym (sector_same o before.0 (call ∷ []) d q (one_read d p went))) so)
 
-pub reads_one : (d p : ℕ) (log log' : Option (List Call)) (went : Bool) → Logs log log' (record { disk = d; what = LoggedRead p; went = went }) → LogsReads log log' d
-reads_one d p log log' went logs now is =
-    let before = logs now is in
-    (before.0, record { disk = d; what = LoggedRead p; went = went } ∷ [], before.1, before.2, one_read d p went)
+one_failed : (call : Call) → has_failed (call ∷ []) ≡ not call.went
+one_failed call = at call.went where
+  at : (b : Bool) → (not b || false) ≡ not b
+  at true = refl
+  at false = refl
 
-pub reads_both : (d : ℕ) (first second third : Option (List Call)) → LogsReads first second d → LogsReads second third d → LogsReads first third d
-reads_both d first second third a b now is =
+pub reads_one : (d p : ℕ) (log log' : Option (List Call)) (went failed : Bool) → failed ≡ not went → Logs log log' (record { disk = d; what = LoggedRead p; went = went }) → LogsReads log log' d failed
+reads_one d p log log' went failed is logs now told =
+    let call : Call = record { disk = d; what = LoggedRead p; went = went } in
+    let before = logs now told in
+    (before.0, call ∷ [], before.1, before.2, one_read d p went, one_failed call ∙ sym is)
+
+pub reads_both : (d : ℕ) (first second third : Option (List Call)) (before failed : Bool) → before ≡ false → LogsReads first second d before → LogsReads second third d failed → LogsReads first third d failed
+reads_both d first second third before failed well a b now is =
     let later = b now is in
     let earlier = a later.0 later.2 in (
       earlier.0,
@@ -213,6 +221,7 @@ reads_both d first second third a b now is =
       earlier.2,
       later.3 ∙ ap (λ (x : List Call). x ++ later.1) earlier.3 ∙ append_assoc earlier.0 earlier.1 later.1,
       all_both d earlier.1 later.1 earlier.4 later.4,
+      list_any-append (λ (c : Call). not c.went) earlier.1 later.1 ∙ ap (λ (x : Bool). x || has_failed later.1) (earlier.5 ∙ well) ∙ later.5,
     )
 
 pub from_got : (n d : ℕ) (opening opening' : Option (List (List Sector))) (log log' : Option (List Call)) (r r' : Reading) (p : ℕ) (s : Sector) (went : Bool)

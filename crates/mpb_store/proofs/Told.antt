@@ -3,6 +3,7 @@ use Rattle.std.proofs.Common.{◌≡◌, ◌≢◌, ℕ, zero, suc, ◌+◌, ◌
 use Rattle.std.specs.Prelude.{◌↔◌, IfSome, slice_get}
 use Rattle.std.specs.List.{range_with_len}
 use Rattle.std.proofs.lemmas.List.{append-nil, length-drop, take_all, take-take}
+use Rattle.std.proofs.lemmas.Bool.{false≢true}
 use Rattle.imsm_base.specs.declared.units.Sector.{Sector}
 use Rattle.imsm_base.specs.declared.units.Serial.{Serial}
 use Rattle.imsm_base.specs.Parts.{block_in}
@@ -13,11 +14,11 @@ use Rattle.imsm_codec.proofs.Wholeness.{checks_from_whole}
 use Rattle.device_log.specs.Log.{Call}
 use Rattle.member_bank.specs.Faults.{Rose}
 use Rattle.mpb_store.specs.declared.answer.Found.{Found}
-use Rattle.mpb_store.specs.declared.answer.Found.TheVariants.{Whole, Blank, Unread}
+use Rattle.mpb_store.specs.declared.answer.Found.TheVariants.{Whole, Blank, Torn, Unread}
 use Rattle.mpb_store.specs.declared.reading.ReadStep.TheVariants.{Read, Over}
 use Rattle.mpb_store.specs.Reading.{Reading, first_read, extended_by, places_of, places_left, bytes_at}
 use Rattle.mpb_store.specs.Answers.{IsFound, IsAnswer, bytes_on}
-use Rattle.mpb_store.specs.Banks.{sector_after, LogsReads, StandsSo, IsReadFrom, IsAnswerOn}
+use Rattle.mpb_store.specs.Banks.{is_unread, sector_after, LogsReads, StandsSo, IsReadFrom, IsAnswerOn}
 use Rattle.mpb_store.proofs.Placing.{by_room, unread_small, left_is, extended_sized}
 use Rattle.mpb_store.proofs.Judged.{found_is_one, found_from, block_of_disk}
 use Rattle.mpb_store.proofs.Followed.{extended_same}
@@ -119,8 +120,21 @@ small_there own r f exact well few = (exact Blank).1 (well, inl few)
 
 -- THE LOOP
 
-pub reads_none : (d : ℕ) (log : Option (List Call)) → LogsReads log log d
-reads_none d log now is = (now, [], is, sym (append-nil now), tt)
+pub reads_none : (d : ℕ) (log : Option (List Call)) → LogsReads log log d false
+reads_none d log now is = (now, [], is, sym (append-nil now), tt, refl)
+
+read_then : (f : Found) → f ≢ Unread → is_unread f ≡ false
+read_then Unread read = absurd (read refl)
+read_then Whole read = refl
+read_then Blank read = refl
+read_then (Torn fault) read = refl
+
+-- the answer is Unread exactly where a read failed
+pub unread_is : (own : List ℕ) (r : Reading) (f : Found) → ((g : Found) → (f ≡ g) ↔ IsAnswer own r g) → r.failed ≡ is_unread f
+unread_is own r f exact = at r.failed refl where
+  at : (b : Bool) → r.failed ≡ b → b ≡ is_unread f
+  at true failed = sym (ap is_unread ((exact Unread).1 failed))
+  at false well = sym (read_then f (λ unread. false≢true (sym well ∙ (exact Unread).0 unread)))
 
 pub from_new : (n d : ℕ) (opening : Option (List (List Sector))) (log : Option (List Call)) → IsReadFrom n d opening log (record { sectors = n; bytes = []; failed = false })
 from_new n d opening log = record {

@@ -1,6 +1,6 @@
 -- What a bank tells of a disk that is read. Source: this project's own.
-use Rattle.std.specs.Prelude.{◌≡◌, ◌≢◌, ◌↔◌, ℕ, ◌-◌, ◌/◌, ◌%◌, ◌<◌, false, if◌then◌else◌, List, [], ◌++◌, take, length, replicate, slice_index_or, Option, Some, ⊤}
-use Rattle.std.specs.List.{AllByRecursion}
+use Rattle.std.specs.Prelude.{◌≡◌, ◌≢◌, ◌↔◌, ℕ, ◌-◌, ◌/◌, ◌%◌, ◌<◌, Bool, true, false, not, if◌then◌else◌, List, [], ◌++◌, take, length, replicate, slice_index_or, Option, Some, ⊤}
+use Rattle.std.specs.List.{AllByRecursion, list_any}
 use Rattle.imsm_base.specs.declared.bounds.TheConstants.{SECTOR_BYTES, METADATA_SECTORS}
 use Rattle.imsm_base.specs.declared.units.Sector.{Sector}
 use Rattle.imsm_base.specs.Whole.{anchor_place, standing}
@@ -29,11 +29,19 @@ pub record IsReadOf (d : ℕ) (call : Call) : Type 0 where
   pub disk : call.disk ≡ d
   pub read : IsRead call.what
 
--- what a log that is told has at its end are reads of this disk, and it was told before them
-abbrev pub LogsReads : Option (List Call) → Option (List Call) → ℕ → Type 0
-LogsReads old new d =
+-- some call didn't go through
+abbrev pub has_failed : List Call → Bool
+has_failed calls = list_any (λ (c : Call). not c.went) calls
+
+-- what a log that is told has at its end are reads of this disk, of which one failed or none; and it was told before them
+abbrev pub LogsReads : Option (List Call) → Option (List Call) → ℕ → Bool → Type 0
+LogsReads old new d failed =
     (now : List Call) → new ≡ Some now
-    → (before reads : List Call) × (old ≡ Some before) × (now ≡ before ++ reads) × AllByRecursion (IsReadOf d) reads
+    → (before reads : List Call) × (old ≡ Some before) × (now ≡ before ++ reads) × AllByRecursion (IsReadOf d) reads × (has_failed reads ≡ failed)
+
+abbrev pub is_unread : Found → Bool
+is_unread Unread = true
+is_unread _ = false
 
 -- the bytes that were read are those that stand at the first places of a block
 pub record StandsSo (n : ℕ) (at : ℕ → Sector) (bytes : List ℕ) : Type 0 where

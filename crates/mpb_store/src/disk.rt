@@ -9,7 +9,7 @@ ghost use Rattle.member_bank.specs.Faults.{Rose};
 ghost use Rattle.mpb_store.specs.declared.answer.Found.{Found};
 ghost use Rattle.mpb_store.specs.Reading.{places_left, first_read};
 ghost use Rattle.mpb_store.specs.Answers.{IsPastFront};
-ghost use Rattle.mpb_store.specs.Banks.{IsReadFrom, LogsReads, IsAnswerOn, bytes_left, sector_after};
+ghost use Rattle.mpb_store.specs.Banks.{IsReadFrom, LogsReads, IsAnswerOn, bytes_left, is_unread, sector_after};
 
 use crate::answer::Found;
 use crate::reading::{ReadStep, ReadSteps};
@@ -24,7 +24,7 @@ fn read_next<B: Bank>(bank: &mut B, d: DiskNo, place: u64, steps: &mut ReadSteps
     requires from { IsReadFrom (slice_index (B.sizes bank.old) d.0) d.0 (B.opening bank.old) (B.log bank.old) steps.old }
     ensures from { IsReadFrom (slice_index (B.sizes bank.old) d.0) d.0 (B.opening bank.new) (B.log bank.new) steps.new }
     ensures less { bytes_left steps.new < bytes_left steps.old }
-    ensures reads { LogsReads (B.log bank.old) (B.log bank.new) d.0 }
+    ensures reads { LogsReads (B.log bank.old) (B.log bank.new) d.0 steps.new.failed }
     ensures opening { Keeps (B.opening bank.old) (B.opening bank.new) }
     ensures cause { steps.new.failed ≡ true → Rose (B.faults_of bank.old d.0) (B.faults_of bank.new d.0) }
     ensures later { (k : ℕ) → B.faults_of bank.old k ≤ B.faults_of bank.new k }
@@ -54,8 +54,8 @@ pub fn found<B: Bank>(bank: &mut B, d: DiskNo, into: &mut MpbBuf) -> Found
     ensures behind { IsPastFront result }
     ensures unread { result ≡ Found.Unread → Rose (B.faults_of bank.old d.0) (B.faults_of bank.new d.0) }
     ensures later { (k : ℕ) → B.faults_of bank.old k ≤ B.faults_of bank.new k }
-    // Nothing but reads of this disk is done.
-    ensures reads { LogsReads (B.log bank.old) (B.log bank.new) d.0 }
+    // Nothing but reads of this disk is done, and the answer is Unread exactly where one of them failed.
+    ensures reads { LogsReads (B.log bank.old) (B.log bank.new) d.0 (is_unread result) }
     ensures opening { Keeps (B.opening bank.old) (B.opening bank.new) }
     ensures sizes { B.sizes bank.new ≡ B.sizes bank.old }
     ensures serials { B.serials bank.new ≡ B.serials bank.old }

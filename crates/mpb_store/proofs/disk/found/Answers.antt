@@ -1,9 +1,10 @@
 use Rattle.std.proofs.Common.{ℕ, ◌∙◌, sym, ap, subst, arith}
 use Rattle.std.specs.Prelude.{slice_get, slice_index}
 use Rattle.mpb_store.specs.Reading.{places_left}
-use Rattle.mpb_store.specs.Banks.{IsReadFrom}
-use Rattle.mpb_store.proofs.Followed.{reads_both}
-use Rattle.mpb_store.proofs.Told.{answer_told, whole_told, small_there, none_left, rose_later}
+use Rattle.mpb_store.specs.Banks.{IsReadFrom, LogsReads}
+use Rattle.mpb_store.proofs.Followed.{reads_both, some_left}
+use Rattle.mpb_store.proofs.Placing.{left_open}
+use Rattle.mpb_store.proofs.Told.{unread_is, answer_told, whole_told, small_there, none_left, rose_later}
 use Rattle.mpb_store.proofs.disk.found.Goals as goal
 
 pub loop-place-preserved : goal.loop-place-preserved
@@ -14,7 +15,8 @@ loop-place-preserved g c =
     let read = c.read_next.ensures in
     record {
       from = subst (λ x. IsReadFrom (slice_index x d) d (B.opening c.read_next.new.bank) (B.log c.read_next.new.bank) c.read_next.new.steps) before.sizes read.from;
-      reads = reads_both d (B.log c.args.bank.now) (B.log c.loop-place.bank) (B.log c.read_next.new.bank) before.reads read.reads;
+      reads = reads_both d (B.log c.args.bank.now) (B.log c.loop-place.bank) (B.log c.read_next.new.bank) c.loop-place.steps.failed c.read_next.new.steps.failed
+          (left_open c.loop-place.steps (some_left c.loop-place.steps c.in-Read.place (sym c.in-Read.is ∙ c.next.ensures))).0 before.reads read.reads;
       opening = λ o is. before.opening o (read.opening o is);
       cause = λ failed. rose_later (B.faults_of c.args.bank.now d) (B.faults_of c.loop-place.bank d) (B.faults_of c.read_next.new.bank d) (before.later d) (read.cause failed);
       later = λ k. omega (arith, before.later k, read.later k);
@@ -47,3 +49,9 @@ returns-clause-small g c = λ few.
 
 pub returns-clause-unread : goal.returns-clause-unread
 returns-clause-unread g c = λ is. c.loop-place.invariant.cause ((c.end.ensures.answer _).0 is)
+
+pub returns-clause-reads : goal.returns-clause-reads
+returns-clause-reads g c =
+    let B = g.B.Bank in
+    let same = unread_is c.serial.result.0 c.loop-place.steps c.end.result c.end.ensures.answer in
+    subst (λ x. LogsReads (B.log c.args.bank.now) (B.log c.loop-place.bank) c.args.d.0 x) same c.loop-place.invariant.reads

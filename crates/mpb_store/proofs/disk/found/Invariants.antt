@@ -8,7 +8,7 @@ use Rattle.mpb_store.proofs.disk.found.Given as goal
 abbrev pub invariant-loop-place : goal.invariant-loop-place
 invariant-loop-place g l = record {
   from : IsReadFrom (slice_index (g.B.Bank.sizes l.initial.bank) l.d.0) l.d.0 (g.B.Bank.opening l.bank) (g.B.Bank.log l.bank) l.steps;
-  reads : LogsReads (g.B.Bank.log l.initial.bank) (g.B.Bank.log l.bank) l.d.0;
+  reads : LogsReads (g.B.Bank.log l.initial.bank) (g.B.Bank.log l.bank) l.d.0 l.steps.failed;
   opening : Keeps (g.B.Bank.opening l.initial.bank) (g.B.Bank.opening l.bank);
   cause : l.steps.failed ≡ true → Rose (g.B.Bank.faults_of l.initial.bank l.d.0) (g.B.Bank.faults_of l.bank l.d.0);
   later : (k : ℕ) → g.B.Bank.faults_of l.initial.bank k ≤ g.B.Bank.faults_of l.bank k;

@@ -1,6 +1,8 @@
-use Rattle.std.proofs.Common.{◌≡◌, ℕ, ◌<◌, length, subst}
-use Rattle.std.specs.Prelude.{slice_index}
-use Rattle.mpb_store.proofs.Followed.{next_inside, from_got, from_lost, less_got, less_lost}
+use Rattle.std.proofs.Common.{◌≡◌, ℕ, ◌<◌, length, ◌∙◌, sym, ap, subst}
+use Rattle.std.specs.Prelude.{slice_index, is_ok, not}
+use Rattle.mpb_store.specs.Reading.{Reading}
+use Rattle.mpb_store.proofs.Placing.{left_open}
+use Rattle.mpb_store.proofs.Followed.{reads_one, some_left, next_inside, from_got, from_lost, less_got, less_lost}
 use Rattle.mpb_store.proofs.disk.read_next.Goals as goal
 
 pub read-requires-clause-place : goal.read-requires-clause-place
@@ -28,3 +30,16 @@ returns-in-Err-clause-from g c =
 
 pub returns-in-Err-clause-less : goal.returns-in-Err-clause-less
 returns-in-Err-clause-less g c = less_lost c.args.steps.now c.fed-in-Err.new.self c.args.place c.requires.from.whole c.requires.next c.fed-in-Err.ensures.fed
+
+pub returns-in-Ok-clause-reads : goal.returns-in-Ok-clause-reads
+returns-in-Ok-clause-reads g c =
+    let B = g.B.Bank in
+    let well = (left_open c.args.steps.now (some_left c.args.steps.now c.args.place c.requires.next)).0 in
+    let failed = ap (λ (r : Reading). r.failed) c.fed.ensures.fed ∙ well ∙ sym (ap (λ r. not (is_ok r)) c.in-Ok.is) in
+    reads_one c.args.d.0 c.args.place (B.log c.args.bank.now) (B.log c.read.new.self) _ c.fed.new.self.failed failed c.read.ensures.logs
+
+pub returns-in-Err-clause-reads : goal.returns-in-Err-clause-reads
+returns-in-Err-clause-reads g c =
+    let B = g.B.Bank in
+    let failed = ap (λ (r : Reading). r.failed) c.fed-in-Err.ensures.fed ∙ sym (ap (λ r. not (is_ok r)) c.in-Err.is) in
+    reads_one c.args.d.0 c.args.place (B.log c.args.bank.now) (B.log c.read.new.self) _ c.fed-in-Err.new.self.failed failed c.read.ensures.logs
