@@ -15,11 +15,11 @@ use Rattle.imsm_base.specs.Edits.{first_sector, with_generation, with_dirty, siz
 use Rattle.imsm_base.proofs.Spliced.{number_at-take, number_at-front}
 use Rattle.imsm_base.proofs.Edited.{other_field}
 use Rattle.imsm_codec.specs.Laid.{IsLaid}
-use Rattle.imsm_codec.specs.Buffer.{Buffer, IsKept}
+use Rattle.imsm_buffer.specs.Buffer.{Buffer, IsKept}
 use Rattle.imsm_codec.specs.Mpb.{volume_at, blank_volume}
-use Rattle.imsm_codec.specs.declared.fault.NoRoom.{NoRoom}
+use Rattle.imsm_buffer.specs.declared.fault.NoRoom.{NoRoom}
 use Rattle.imsm_base.proofs.Apart.{length-volumes}
-use Rattle.imsm_codec.proofs.Kept.{volumes-counted, generation-kept, generation-block, dirty-kept, dirty-block, sealed-kept, sealed-block, sealed-parts}
+use Rattle.imsm_buffer.proofs.Kept.{volumes-counted, generation-kept, generation-block, dirty-kept, dirty-block, sealed-kept, sealed-block, sealed-parts}
 use Rattle.array_model.specs.Meaning.{bytes_of_laid, of_volume}
 use Rattle.block_words.specs.Reading.{block_words}
 use Rattle.block_words.specs.Renewed.{renewed, renewed_bytes}

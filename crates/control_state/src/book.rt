@@ -5,7 +5,7 @@ ghost use Rattle.block_words.specs.Renewed.{renewed};
 ghost use Rattle.control_state.specs.Book.{IsBook, IsBlockOf, laid_at};
 
 use imsm_base::{Sector, VolNo};
-use imsm_codec::MpbBuf;
+use imsm_buffer::MpbBuf;
 
 /// A whole block of one sector with a volume, in room for one sector, and the sector as it lies on a disk: one that was
 /// read may hold other bytes behind the block.

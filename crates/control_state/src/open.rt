@@ -17,7 +17,8 @@ use crate::control::{CLIENTS, Control};
 use crate::round::{Phase, Round};
 use crate::state::State;
 use imsm_base::{SECTOR_BYTES, Sector};
-use imsm_codec::{CodecFault, MpbBuf, MpbRef};
+use imsm_buffer::{CodecFault, MpbBuf};
+use imsm_codec::MpbRef;
 use std::alloc::Global;
 
 impl Book {

@@ -152,7 +152,7 @@ volumes_in-take zero (suc i) bytes below = absurd (omega arith)
 volumes_in-take (suc k) (suc i) bytes below =
     ap (λ (vs : List Volume). volume_in bytes ∷ vs) (volumes_in-take k i (drop (volume_room (volume_in bytes)) bytes) (omega arith))
 
-taken_from : (bytes : List ℕ) (k : ℕ) → k ≤ number_at 1 57 bytes → volumes_in k (behind_disks bytes) ≡ take k (block_in bytes).volumes
+pub taken_from : (bytes : List ℕ) (k : ℕ) → k ≤ number_at 1 57 bytes → volumes_in k (behind_disks bytes) ≡ take k (block_in bytes).volumes
 unfolding block_in
 taken_from bytes k below = volumes_in-take (number_at 1 57 bytes) k (behind_disks bytes) below
 

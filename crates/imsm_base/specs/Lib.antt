@@ -6,3 +6,4 @@ pub mod FirstForm
 pub mod Parts
 pub mod Vector
 pub mod Edits
+pub mod EditsOfTables

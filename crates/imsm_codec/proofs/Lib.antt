@@ -6,4 +6,3 @@ pub mod Found
 pub mod Mirror
 pub mod Laying
 pub mod Exact
-pub mod Kept

@@ -5,4 +5,3 @@ pub mod Table
 pub mod Checked
 pub mod Own
 pub mod Faults
-pub mod Buffer

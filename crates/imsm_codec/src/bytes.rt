@@ -1,11 +1,11 @@
 //! Fields in bytes.
 ghost use Rattle.std.specs.Prelude.{◌≡◌, ◌+◌, ◌*◌, ◌^◌, ◌<◌, ◌≤◌, length, take, drop};
-ghost use Rattle.imsm_base.specs.Fields.{number_at, with_number_at};
+ghost use Rattle.imsm_base.specs.Fields.{number_at};
 
 use imsm_base::get_u32;
 
 /// The byte at a place, as a number.
-pub(crate) fn get_u8(bytes: &[u8], at: usize) -> u8
+pub fn get_u8(bytes: &[u8], at: usize) -> u8
     requires { at < length bytes.now }
     ensures { result ≡ number_at 1 at bytes.now }
 {
@@ -32,7 +32,7 @@ pub(crate) fn get_name(bytes: &[u8], at: usize) -> [u8; 16]
 }
 
 /// The bytes from a place on, none where it lies past the end.
-pub(crate) fn behind(bytes: &[u8], at: usize) -> &[u8]
+pub fn behind(bytes: &[u8], at: usize) -> &[u8]
     ensures { result.now ≡ drop at bytes.now }
 {
     &bytes[at.min(bytes.len())..]
@@ -43,12 +43,4 @@ pub(crate) fn get_u8_or_zero(bytes: &[u8], at: usize) -> u8
     ensures { result ≡ number_at 1 at bytes.now }
 {
     bytes.get(at).copied().unwrap_or(0)
-}
-
-/// Puts a byte at a place, and leaves all others.
-pub(crate) fn put_u8(bytes: &mut [u8], at: usize, value: u8)
-    requires { at < length bytes.old }
-    ensures { bytes.new ≡ with_number_at 1 at value bytes.old }
-{
-    bytes[at] = value;
 }

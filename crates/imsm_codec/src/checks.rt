@@ -67,7 +67,7 @@ fn check_given(bytes: &[u8]) -> Result<(), MpbFault>
 }
 
 /// The sum of the words of a block, its checksum apart, modulo 2^32.
-pub(crate) fn sum_of(bytes: &[u8]) -> u32
+pub fn sum_of(bytes: &[u8]) -> u32
     ensures { result ≡ block_sum bytes.now }
 {
     let mut sum: u32 = 0;

@@ -13,7 +13,7 @@ use crate::fault::MpbFault;
 use imsm_base::{HEADER_BYTES, get_u32};
 
 /// Bytes of a disk record.
-pub(crate) const DISK_BYTES: usize = 48;
+pub const DISK_BYTES: usize = 48;
 
 /// The bytes from a disk's record on.
 pub(crate) fn record_at(bytes: &[u8], i: u8) -> &[u8]

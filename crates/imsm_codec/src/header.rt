@@ -1,6 +1,7 @@
 //! The fields of a metadata block's header (`struct imsm_super` of super-intel.c).
 ghost use Rattle.std.specs.Prelude.{◌≡◌, ◌+◌, ◌*◌, ◌^◌, ◌<◌, ◌≤◌, length, take, drop};
 ghost use Rattle.imsm_base.specs.Layout.{size_of, checksum_of, family_of, orig_family_of, generation_of, attributes_of, disk_count_of, volume_count_of, tail_size_of};
+ghost use Rattle.imsm_codec.specs.Laid.{IsLaid};
 ghost use Rattle.imsm_codec.specs.Mpb.{block_bytes, block_of};
 
 use crate::bytes::get_u8;
@@ -8,6 +9,14 @@ use crate::mpb::MpbRef;
 use imsm_base::get_u32;
 
 impl<'a> MpbRef<'a> {
+    /// A view of bytes that are laid out as a block's.
+    pub fn of_laid(bytes: &'a [u8]) -> MpbRef<'a>
+        requires { IsLaid bytes.now }
+        ensures { block_bytes result ≡ bytes.now }
+    {
+        MpbRef { bytes }
+    }
+
     /// The bytes of the block, `mpb_size` of them.
     pub fn bytes(&self) -> &'a [u8]
         ensures { result.now ≡ block_bytes self.now }

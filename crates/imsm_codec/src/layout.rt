@@ -10,13 +10,13 @@ use crate::fault::MpbFault;
 use imsm_base::HEADER_BYTES;
 
 /// Bytes of a volume's record and state, which its maps stand behind.
-pub(crate) const VOLUME_BYTES: usize = 112;
+pub const VOLUME_BYTES: usize = 112;
 
 /// Bytes of a map without its entries.
-pub(crate) const MAP_BYTES: usize = 48;
+pub const MAP_BYTES: usize = 48;
 
 /// How many bytes the map takes that these bytes begin with.
-pub(crate) fn map_len(bytes: &[u8]) -> usize
+pub fn map_len(bytes: &[u8]) -> usize
     ensures room { result ≡ map_room (map_in bytes.now) }
     ensures bound { result < 2048 }
 {

@@ -1,7 +1,6 @@
-//! Metadata blocks: the check of a block's bytes, and the readers of its fields.
+//! Metadata blocks: the check of a block's bytes, and the readers of its fields and places.
 #![tactic(auto)]
 
-mod buffer;
 mod bytes;
 mod checks;
 mod disk;
@@ -20,10 +19,13 @@ mod volume;
 mod whole_disk;
 mod words;
 
-pub use buffer::MpbBuf;
-pub use checks::check;
-pub use fault::{CodecFault, MpbFault, NoRoom};
+pub use bytes::{behind, get_u8};
+pub use checks::{check, sum_of};
+pub use disk::DISK_BYTES;
+pub use fault::MpbFault;
 pub use first_form::is_first_form;
 pub use law::views_are_spelled;
+pub use layout::{MAP_BYTES, VOLUME_BYTES, map_len};
 pub use mpb::MpbRef;
+pub use volume::volume_from;
 pub use whole_disk::is_whole_disk;

@@ -1,9 +1,5 @@
 //! A whole metadata block, and blocks with one thing wrong.
-ghost use Rattle.std.specs.Prelude.{◌<◌, IsTrue};
-ghost use Rattle.imsm_base.specs.Layout.{volume_count_of};
-ghost use Rattle.imsm_codec.specs.Buffer.{parts_of};
-
-use crate::{MpbBuf, MpbFault, check, is_first_form, is_whole_disk};
+use crate::{MpbFault, check, is_first_form, is_whole_disk};
 use imsm_base::{Serial, Slot, VolNo};
 
 /// A container of two disks of 4,096 sectors, A and B, with one volume of two copies, of 1,024 sectors in strips of 128.
@@ -128,40 +124,6 @@ fn knows_its_disks_and_its_form(rt: HostRuntime) {
     assert!(rt; is_whole_disk(&mpb, &padded(b'B'), 4096));
     assert!(rt; !is_whole_disk(&mpb, &padded(b'B'), 4095));
     assert!(rt; !is_whole_disk(&mpb, &padded(b'C'), 4096));
-}
-
-/// Whether a volume is there to be edited.
-fn has_volume(buffer: &MpbBuf) -> bool
-    ensures { IsTrue result → 0 < volume_count_of (parts_of buffer.now) }
-{
-    buffer.parts().volumes() != 0
-}
-
-/// The checksum rises by the generation's one and by the dirty byte's, which is the third of its word.
-#[test]
-fn edits_a_copy(rt: HostRuntime) {
-    let Ok(mpb) = check(&MIRROR) else {
-        assert!(rt; false);
-        return;
-    };
-    let Ok(mut buffer) = MpbBuf::from_ref(rt.alloc(), &mpb, 512) else {
-        assert!(rt; false);
-        return;
-    };
-    assert!(rt; buffer.bytes() == MIRROR.as_slice());
-    buffer.set_generation(2);
-    assert!(rt; has_volume(&buffer));
-    buffer.set_dirty(VolNo(0), true);
-    assert_eq!(rt; buffer.parts().generation(), 2);
-    assert!(rt; check(buffer.bytes()).is_err());
-    buffer.seal();
-    assert_eq!(rt; buffer.parts().checksum(), 0x4771_510C);
-    let edited = changed(&[(32, 0x0C), (34, 0x71), (44, 2), (402, 1)]);
-    assert!(rt; buffer.bytes() == edited.as_slice());
-    assert!(rt; check(buffer.bytes()).is_ok());
-    let anchor = buffer.anchor();
-    assert!(rt; &anchor.0[..480] == edited.as_slice());
-    assert!(rt; anchor.0[480..].iter().all(|byte| *byte == 0));
 }
 
 #[test]

@@ -13,7 +13,7 @@ use crate::mpb::MpbRef;
 use imsm_base::{VolNo, get_u32};
 
 /// The bytes from a volume's record on.
-pub(crate) fn volume_from(bytes: &[u8], v: u8) -> &[u8]
+pub fn volume_from(bytes: &[u8], v: u8) -> &[u8]
     requires laid { IsLaid bytes.now }
     requires below { v < number_at 1 0x39 bytes.now }
     ensures place { result.now ≡ drop (volumes_room (volumes_in v (behind_disks bytes.now))) (behind_disks bytes.now) }

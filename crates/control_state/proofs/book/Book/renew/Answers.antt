@@ -1,6 +1,6 @@
 use Rattle.std.proofs.Common.{List, ℕ, sym, ap, ◌∙◌, subst, arith}
 use Rattle.imsm_base.specs.Edits.{first_sector}
-use Rattle.imsm_codec.specs.Buffer.{Buffer}
+use Rattle.imsm_buffer.specs.Buffer.{Buffer}
 use Rattle.control_state.specs.Book.{IsBook, laid_at}
 use Rattle.control_state.proofs.Books.{copied, bytes_made, room_made, volume_counted, book_renewed, renewed_is, made_there}
 use Rattle.control_state.proofs.book.Book.renew.Goals as goal

@@ -1,9 +1,9 @@
 use Rattle.std.proofs.Common.{List, ℕ, sym, ◌∙◌, ap, subst}
 use Rattle.imsm_base.specs.Parts.{block_in}
 use Rattle.imsm_base.specs.Edits.{with_generation, block_with_generation}
-use Rattle.imsm_codec.specs.Buffer.{Buffer, IsKept, parts_of}
-use Rattle.imsm_codec.proofs.Kept.{written, length-generation, generation-kept, generation-block}
-use Rattle.imsm_codec.proofs.buffer.MpbBuf.set_generation.Goals as goal
+use Rattle.imsm_buffer.specs.Buffer.{Buffer, IsKept, parts_of}
+use Rattle.imsm_buffer.proofs.Kept.{written, length-generation, generation-kept, generation-block}
+use Rattle.imsm_buffer.proofs.buffer.MpbBuf.set_generation.Goals as goal
 
 pub invariant_of-self : goal.invariant_of-self
 invariant_of-self c =

@@ -1,8 +1,8 @@
 use Rattle.std.proofs.Common.{refl, ◌∙◌, ap}
-use Rattle.imsm_codec.specs.Buffer.{Buffer}
+use Rattle.imsm_buffer.specs.Buffer.{Buffer}
 use Rattle.imsm_base.specs.Edits.{first_sector}
-use Rattle.imsm_codec.proofs.Kept.{anchor-made}
-use Rattle.imsm_codec.proofs.buffer.MpbBuf.anchor.Goals as goal
+use Rattle.imsm_buffer.proofs.Kept.{anchor-made}
+use Rattle.imsm_buffer.proofs.buffer.MpbBuf.anchor.Goals as goal
 
 pub returns : goal.returns
 returns c =

@@ -1,20 +1,15 @@
 //! A metadata block that is owned, and edited in place.
-ghost use Rattle.std.specs.Prelude.{◌≡◌, ◌+◌, ◌*◌, ◌<◌, ◌≤◌, ◌↔◌, length, IfOk, IfErr, IsOk, OnOk, OnErr};
+ghost use Rattle.std.specs.Prelude.{◌≡◌, ◌≤◌, ◌↔◌, length, IfOk, IfErr, IsOk, OnOk, OnErr};
 ghost use Rattle.imsm_base.specs.declared.bounds.TheConstants.{MAX_BLOCK_BYTES};
-ghost use Rattle.imsm_base.specs.Fields.{number_at};
-ghost use Rattle.imsm_base.specs.Layout.{volume_count_of, size_of, checksum_of};
+ghost use Rattle.imsm_base.specs.Layout.{size_of, checksum_of};
 ghost use Rattle.imsm_base.specs.Whole.{block_sum};
-ghost use Rattle.imsm_base.specs.Edits.{with_generation, dirty_place, with_dirty, sized, sealed, first_sector, block_with_generation, block_with_dirty, block_sealed};
-ghost use Rattle.imsm_codec.specs.Laid.{IsLaid};
+ghost use Rattle.imsm_base.specs.Edits.{sized, sealed, first_sector, block_sealed};
 ghost use Rattle.imsm_codec.specs.Mpb.{block_bytes, block_of};
-ghost use Rattle.imsm_codec.specs.Buffer.{parts_of};
+ghost use Rattle.imsm_buffer.specs.Buffer.{parts_of};
 
-use crate::bytes::{get_u8, put_u8};
-use crate::checks::sum_of;
 use crate::fault::{CodecFault, NoRoom};
-use crate::mpb::MpbRef;
-use crate::volume::volume_from;
-use imsm_base::{SECTOR_BYTES, Sector, VolNo, put_u32};
+use imsm_base::{SECTOR_BYTES, Sector, put_u32};
+use imsm_codec::{MpbRef, sum_of};
 use std::alloc::Global;
 use std::marker::Model;
 
@@ -22,29 +17,19 @@ use std::marker::Model;
 /// after `seal` and until the next edit.
 #[derive(Drop)]
 pub struct MpbBuf {
-    bytes: Vec<u8>,
-    room: u16,
+    pub(crate) bytes: Vec<u8>,
+    pub(crate) room: u16,
 }
 
 impl Model for MpbBuf {
     ghost use Rattle.std.specs.Prelude.{vec_capacity};
-    ghost use Rattle.imsm_codec.specs.Buffer.{Buffer, IsKept};
+    ghost use Rattle.imsm_buffer.specs.Buffer.{Buffer, IsKept};
 
     ghost Value = { Buffer };
 
     ghost view = { λ a. record { bytes = a.bytes.items; room = a.room } };
 
     ghost invariant = { λ a. IsKept a.bytes.items a.room (vec_capacity a.bytes) };
-}
-
-/// The place of a volume's dirty byte (`dirty` of `struct imsm_vol`), 90 bytes into the volume.
-fn dirty_place(bytes: &[u8], v: u8) -> usize
-    requires laid { IsLaid bytes.now }
-    requires below { v < number_at 1 0x39 bytes.now }
-    ensures place { result ≡ dirty_place bytes.now v }
-    ensures inside { result < length bytes.now }
-{
-    bytes.len() - volume_from(bytes, v).len() + 90
 }
 
 impl MpbBuf {
@@ -68,7 +53,7 @@ impl MpbBuf {
         ensures bytes { block_bytes result ≡ self.now.bytes }
         ensures parts { block_of result ≡ parts_of self.now }
     {
-        MpbRef { bytes: &self.bytes }
+        MpbRef::of_laid(&self.bytes)
     }
 
     /// The block's bytes.
@@ -98,25 +83,6 @@ impl MpbBuf {
         other.bytes.clear();
         other.bytes.extend_from_slice(&self.bytes).unwrap();
         Ok(())
-    }
-
-    /// Sets `generation_num`.
-    pub fn set_generation(&mut self, g: u32)
-        ensures bytes { self.new ≡ record self.old { bytes = with_generation self.old.bytes g } }
-        ensures block { parts_of self.new ≡ block_with_generation (parts_of self.old) g }
-    {
-        put_u32(&mut self.bytes, 0x2C, g);
-    }
-
-    /// Sets or clears a volume's dirty bit.
-    pub fn set_dirty(&mut self, v: VolNo, on: bool)
-        requires { v.0 < volume_count_of (parts_of self.old) }
-        ensures bytes { self.new ≡ record self.old { bytes = with_dirty self.old.bytes v.0 on } }
-        ensures block { parts_of self.new ≡ block_with_dirty (parts_of self.old) v.0 on }
-    {
-        let at = dirty_place(&self.bytes, v.0);
-        let byte = get_u8(&self.bytes, at);
-        put_u8(&mut self.bytes, at, byte / 2 * 2 + u8::from(on));
     }
 
     /// Makes the size and the checksum right.

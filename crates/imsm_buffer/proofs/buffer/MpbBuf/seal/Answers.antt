@@ -4,9 +4,9 @@ use Rattle.imsm_base.specs.Layout.{size_of, checksum_of}
 use Rattle.imsm_base.specs.Parts.{block_in}
 use Rattle.imsm_base.specs.Whole.{block_sum}
 use Rattle.imsm_base.specs.Edits.{sized, block_sealed}
-use Rattle.imsm_codec.specs.Buffer.{Buffer, IsKept, parts_of}
-use Rattle.imsm_codec.proofs.Kept.{sealed-kept, sealed-block, sealed-parts, seal-made}
-use Rattle.imsm_codec.proofs.buffer.MpbBuf.seal.Goals as goal
+use Rattle.imsm_buffer.specs.Buffer.{Buffer, IsKept, parts_of}
+use Rattle.imsm_buffer.proofs.Kept.{sealed-kept, sealed-block, sealed-parts, seal-made}
+use Rattle.imsm_buffer.proofs.buffer.MpbBuf.seal.Goals as goal
 
 -- the write of the size
 sized_as : (first now items : List ℕ) (n len : ℕ) → first ≡ with_number_at 4 36 n now → now ≡ items → n ≡ len → len ≡ length items → first ≡ sized items

@@ -17,13 +17,13 @@ use Rattle.imsm_base.proofs.Apart.{spells_apart, length-volumes}
 use Rattle.imsm_base.proofs.Edited.{other_field, generation-spells, dirty-spells, dirty-inside, length-with_generation, length-with_dirty}
 use Rattle.imsm_base.proofs.Sealed.{IsSealed, sealed-spells, sealed-is, length-sized, length-sealed}
 use Rattle.imsm_codec.specs.Laid.{IsLaid}
-use Rattle.imsm_codec.specs.Buffer.{IsKept}
+use Rattle.imsm_buffer.specs.Buffer.{IsKept}
 
 -- what a write through a slice of it leaves in a Vec
 pub written : (v : Vec ℕ) (ws bytes : List ℕ) → ws ≡ bytes → length bytes ≡ length v.items → (with_items v ws).items ≡ bytes
 written v ws bytes is len = with_items_is v ws (ap (λ (x : List ℕ). length x) is ∙ len ∙ sym v.ok.0) ∙ is
 
-laid_as : (bytes : List ℕ) (b : Block) → Spells bytes b → size_of b ≤ MAX_BLOCK_BYTES → IsLaid bytes
+pub laid_as : (bytes : List ℕ) (b : Block) → Spells bytes b → size_of b ≤ MAX_BLOCK_BYTES → IsLaid bytes
 laid_as bytes b s most =
     let same : b ≡ block_in bytes = sym (block_in-spelled bytes b s) in
     record {

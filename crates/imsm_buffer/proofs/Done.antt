@@ -1,0 +1,193 @@
+-- What an edit of the owned bytes leaves is the edited block, laid end to end.
+use Rattle.std.proofs.Common.{◌≡◌, ℕ, ◌+◌, ◌*◌, ◌/◌, ◌%◌, ◌^◌, ◌≤◌, ◌<◌, List, [], length, take, get_or, refl, sym, ◌∙◌, ap, subst, arith}
+use Rattle.std.specs.Global.{Vec}
+use Rattle.std.specs.Vec.{with_items}
+use Rattle.byteorder.specs.Endian.{little_bytes}
+use Rattle.imsm_base.specs.declared.bounds.TheConstants.{MAX_BLOCK_BYTES}
+use Rattle.imsm_base.specs.Fields.{with_number_at}
+use Rattle.imsm_base.specs.Layout.{Block, Volume, Map, Spells, HasLengths, IsMap, IsVolume, IsBlock, disk_lengths, size_of, disk_count_of, volume_count_of, map_count_of, member_count_of, map_bytes, volume_bytes, bytes_of}
+use Rattle.imsm_base.specs.Volumes.{blank_map}
+use Rattle.imsm_base.specs.Parts.{block_in, maps_room, map_room, volume_room}
+use Rattle.imsm_base.specs.Edits.{with_field}
+use Rattle.imsm_base.specs.EditsOfTables.{with_volume, with_map, block_with_status, map_with_order, block_with_order, map_with_state, block_with_state, volume_with_name, block_with_name, volume_with_pass, block_with_pass}
+use Rattle.imsm_base.proofs.Apart.{laid_apart}
+use Rattle.imsm_base.proofs.Joined.{block_in-spelled}
+use Rattle.imsm_base.proofs.Spliced.{set-lengths}
+use Rattle.imsm_codec.specs.Mpb.{volume_at, map_at, blank_volume}
+use Rattle.imsm_buffer.specs.Buffer.{Buffer, IsKept, parts_of}
+use Rattle.imsm_buffer.specs.Places.{disk_place, volume_place, map_place, with_pass_at}
+use Rattle.imsm_buffer.proofs.Kept.{written, laid_as}
+use Rattle.imsm_buffer.proofs.Replaced.{replaced, length-replaced, all-at}
+use Rattle.imsm_buffer.proofs.Tables.{with_disk-is, with_volume-is, before_volume, behind_volume, volume_laid, volume_around, volume_placed, fields_in}
+use Rattle.imsm_buffer.proofs.FieldEdits.{disk_field_laid, in_volume, device_put, pass_put, pass-is, in_map, map_field_put, entry_put, with_map-is, order-is, map_state-is, name-is}
+use Rattle.imsm_buffer.proofs.Placed.{block_is, volume_is, maps_inside}
+
+-- what a write of bytes leaves, as the buffer's clauses say it
+pub record IsDone (v : Vec ℕ) (ws : List ℕ) (room : ℕ) (s : Buffer) (edit : Block → Block) : Type 0 where
+  pub kept : IsKept (with_items v ws).items room v.cap
+  pub bytes : record { bytes = (with_items v ws).items; room = room } ≡ record s { bytes = bytes_of (edit (parts_of s)) }
+  pub block : block_in (with_items v ws).items ≡ edit (parts_of s)
+
+abbrev pub seen : Vec ℕ → ℕ → Buffer
+seen v room = record { bytes = v.items; room = room }
+
+pub done : (v : Vec ℕ) (ws : List ℕ) (room : ℕ) (s : Buffer) (edit : Block → Block) → seen v room ≡ s → IsKept v.items room v.cap → ws ≡ bytes_of (edit (block_in v.items)) →
+    length ws ≡ length v.items → IsBlock (edit (block_in v.items)) → size_of (edit (block_in v.items)) ≤ MAX_BLOCK_BYTES → IsDone v ws room s edit
+done v ws room s edit view k made same is small =
+    let new : Block = edit (block_in v.items) in
+    let after : (with_items v ws).items ≡ bytes_of new = written v ws (bytes_of new) made (ap (λ (x : List ℕ). length x) (sym made) ∙ same) in
+    let spells : Spells (with_items v ws).items new = record { parts = is; laid = after } in
+    let fits = k.fits in
+    let len : length (with_items v ws).items ≡ length v.items = ap (λ (x : List ℕ). length x) (after ∙ sym made) ∙ same in
+    record {
+      kept = record { laid = laid_as (with_items v ws).items new spells small; fits = omega arith; most = k.most; taken = k.taken };
+      bytes = ap (λ (x : List ℕ). seen_as x room) after ∙ ap (λ (x : Buffer). edited_as x) view;
+      block = block_in-spelled (with_items v ws).items new spells ∙ ap (λ (x : Buffer). edit (parts_of x)) view;
+    }
+  where
+    seen_as : List ℕ → ℕ → Buffer
+    seen_as x n = record { bytes = x; room = n }
+
+    edited_as : Buffer → Buffer
+    edited_as x = record x { bytes = bytes_of (edit (parts_of x)) }
+
+-- the same where as many bytes are put at a place
+pub put_done : (v : Vec ℕ) (ws now w : List ℕ) (room place n : ℕ) (s : Buffer) (edit : Block → Block) → seen v room ≡ s → IsKept v.items room v.cap →
+    ws ≡ replaced place n w now → now ≡ v.items → length w ≡ n → place + n ≤ length v.items →
+    replaced place n w (bytes_of (block_in v.items)) ≡ bytes_of (edit (block_in v.items)) → IsBlock (edit (block_in v.items)) → size_of (edit (block_in v.items)) ≤ MAX_BLOCK_BYTES → IsDone v ws room s edit
+put_done v ws now w room place n s edit view k put is len inside made block small =
+    let there : ws ≡ replaced place n w v.items = put ∙ ap (replaced place n w) is in
+    let same : length ws ≡ length v.items = ap (λ (x : List ℕ). length x) there ∙ omega (arith, length-replaced place n w v.items inside) in
+    done v ws room s edit view k (there ∙ ap (replaced place n w) (laid_apart v.items) ∙ made) same block small
+
+-- where the code found a volume, and a map, in the bytes that it read
+pub record IsVolumePlace (at k : ℕ) (bytes : List ℕ) : Type 0 where
+  pub place : at ≡ volume_place k (block_in bytes)
+  pub inside : at + volume_room (volume_at k (block_in bytes)) ≤ length bytes
+
+pub record IsMapPlace (at k m : ℕ) (bytes : List ℕ) : Type 0 where
+  pub place : at ≡ map_place k m (block_in bytes)
+  pub inside : at + map_room (map_at m (volume_at k (block_in bytes))) ≤ length bytes
+
+-- THE FIELDS
+
+pub status_done : (v : Vec ℕ) (ws now : List ℕ) (room at i status : ℕ) (s : Buffer) → seen v room ≡ s → IsKept v.items room v.cap → i < disk_count_of (parts_of s) →
+    at ≡ disk_place i + 24 → ws ≡ with_number_at 4 at status now → now ≡ v.items → IsDone v ws room s (λ b. block_with_status b i status)
+status_done v ws now room at i status s view k there place put is =
+    let b : Block = block_in v.items in
+    let block : IsBlock b = block_is v.items k.laid in
+    let below : i < disk_count_of b = subst (λ (x : Buffer). i < disk_count_of (parts_of x)) (sym view) there in
+    let inside : i < length b.disks = omega (arith, block.disk_count) in
+    let room_is = k.laid.room in
+    put_done v ws now (little_bytes 4 status) room at 4 s (λ x. block_with_status x i status) view k put is refl (omega arith)
+    (disk_field_laid b i 3 (little_bytes 4 status) at block inside (omega arith) (omega arith) place)
+    (with_disk-is i (with_field 3 (little_bytes 4 status)) b block (set-lengths disk_lengths (get_or b.disks i []) 3 (little_bytes 4 status) (all-at (HasLengths disk_lengths) i b.disks [] block.disks inside) refl))
+    k.laid.size
+
+volume_of : (v : Vec ℕ) (room k : ℕ) (s : Buffer) → seen v room ≡ s → k < volume_count_of (parts_of s) → k < volume_count_of (block_in v.items)
+volume_of v room k s view there = subst (λ (x : Buffer). k < volume_count_of (parts_of x)) (sym view) there
+
+map_of : (v : Vec ℕ) (room k m : ℕ) (s : Buffer) → seen v room ≡ s → m < map_count_of (volume_at k (parts_of s)) → m < map_count_of (volume_at k (block_in v.items))
+map_of v room k m s view there = subst (λ (x : Buffer). m < map_count_of (volume_at k (parts_of x))) (sym view) there
+
+-- what is put into the bytes of one volume
+volume_done : (v : Vec ℕ) (ws now w : List ℕ) (room k place at n : ℕ) (s : Buffer) (f : Volume → Volume) → seen v room ≡ s → IsKept v.items room v.cap → k < volume_count_of (block_in v.items) →
+    ws ≡ replaced place n w now → now ≡ v.items → length w ≡ n → place + n ≤ length v.items → place ≡ volume_place k (block_in v.items) + at →
+    at + n ≤ volume_room (volume_at k (block_in v.items)) → replaced at n w (volume_bytes (volume_at k (block_in v.items))) ≡ volume_bytes (f (volume_at k (block_in v.items))) →
+    IsVolume (f (volume_at k (block_in v.items))) → IsDone v ws room s (with_volume k f)
+volume_done v ws now w room k place at n s f view kept there put is len inside placed within made new =
+    let b : Block = block_in v.items in
+    let block : IsBlock b = block_is v.items kept.laid in
+    put_done v ws now w room place n s (with_volume k f) view kept put is len inside
+    (in_volume b k f blank_volume w place at n block (omega (arith, block.volume_count)) placed within made) (with_volume-is k f b blank_volume block new) kept.laid.size
+
+pub name_done : (v : Vec ℕ) (ws now read name : List ℕ) (room at k : ℕ) (s : Buffer) → seen v room ≡ s → IsKept v.items room v.cap → k < volume_count_of (parts_of s) →
+    read ≡ v.items → IsVolumePlace at k read → ws ≡ replaced at 16 name now → now ≡ v.items → length name ≡ 16 →
+    IsDone v ws room s (λ b. block_with_name b k name)
+name_done v ws now read name room at k s view kept there same placed put is len =
+    let here : IsVolumePlace at k v.items = subst (IsVolumePlace at k) same placed in
+    let place = here.place in
+    let inside = here.inside in
+    let below = volume_of v room k s view there in
+    let volume : IsVolume (volume_at k (block_in v.items)) = volume_is v.items k kept.laid below in
+    volume_done v ws now name room k at 0 16 s (volume_with_name name) view kept below put is len (omega arith) (omega arith) (omega arith)
+    (device_put (volume_at k (block_in v.items)) 0 name (fields_in (volume_at k (block_in v.items)) volume) (omega arith) (omega arith)) (name-is (volume_at k (block_in v.items)) name volume len)
+
+-- what is put into the bytes of one map
+map_done : (v : Vec ℕ) (ws now w : List ℕ) (room k m place at n : ℕ) (s : Buffer) (f : Map → Map) → seen v room ≡ s → IsKept v.items room v.cap → k < volume_count_of (block_in v.items) →
+    m < map_count_of (volume_at k (block_in v.items)) → ws ≡ replaced place n w now → now ≡ v.items → length w ≡ n → place + n ≤ length v.items → place ≡ map_place k m (block_in v.items) + at →
+    at + n ≤ map_room (map_at m (volume_at k (block_in v.items))) → replaced at n w (map_bytes (map_at m (volume_at k (block_in v.items)))) ≡ map_bytes (f (map_at m (volume_at k (block_in v.items)))) →
+    IsMap (f (map_at m (volume_at k (block_in v.items)))) → IsDone v ws room s (with_volume k (with_map m f))
+map_done v ws now w room k m place at n s f view kept there map put is len inside placed within made new =
+    let x : Volume = volume_at k (block_in v.items) in
+    let volume : IsVolume x = volume_is v.items k kept.laid there in
+    let below : m < length x.maps = omega (arith, volume.count) in
+    let ends = maps_inside m x.maps blank_map below in
+    volume_done v ws now w room k place ((112 + maps_room (take m x.maps)) + at) n s (with_map m f) view kept there put is len inside (omega arith) (omega arith)
+    (in_map x m f blank_map w at n (fields_in x volume) below within made) (with_map-is x m f blank_map volume new)
+
+pub map_state_done : (v : Vec ℕ) (ws now read : List ℕ) (room at k m state : ℕ) (s : Buffer) → seen v room ≡ s → IsKept v.items room v.cap → k < volume_count_of (parts_of s) →
+    m < map_count_of (volume_at k (parts_of s)) → read ≡ v.items → IsMapPlace at k m read →
+    ws ≡ with_number_at 1 (at + 14) state now → now ≡ v.items → IsDone v ws room s (λ b. block_with_state b k m state)
+map_state_done v ws now read room at k m state s view kept there map same placed put is =
+    let at_place : IsMapPlace at k m v.items = subst (IsMapPlace at k m) same placed in
+    let place = at_place.place in
+    let inside = at_place.inside in
+    let below = volume_of v room k s view there in
+    let within = map_of v room k m s view map in
+    let volume : IsVolume (volume_at k (block_in v.items)) = volume_is v.items k kept.laid below in
+    let here : IsMap (map_at m (volume_at k (block_in v.items))) = all-at IsMap m (volume_at k (block_in v.items)).maps blank_map volume.maps (omega (arith, volume.count)) in
+    map_done v ws now (little_bytes 1 state) room k m (at + 14) 14 1 s (map_with_state state) view kept below within put is refl (omega arith) (omega arith) (omega arith)
+    (map_field_put (map_at m (volume_at k (block_in v.items))) 4 (little_bytes 1 state) here (omega arith) (omega arith)) (map_state-is (map_at m (volume_at k (block_in v.items))) state here)
+
+pub order_done : (v : Vec ℕ) (ws now read : List ℕ) (room at place k m slot order : ℕ) (s : Buffer) → seen v room ≡ s → IsKept v.items room v.cap → k < volume_count_of (parts_of s) →
+    m < map_count_of (volume_at k (parts_of s)) → slot < member_count_of (map_at m (volume_at k (parts_of s))) → read ≡ v.items → IsMapPlace at k m read →
+    place ≡ at + (48 + 4 * slot) → ws ≡ with_number_at 4 place order now → now ≡ v.items →
+    IsDone v ws room s (λ b. block_with_order b k m slot order)
+order_done v ws now read room at place k m slot order s view kept there map member same placed behind put is =
+    let at_place : IsMapPlace at k m v.items = subst (IsMapPlace at k m) same placed in
+    let start = at_place.place in
+    let inside = at_place.inside in
+    let below = volume_of v room k s view there in
+    let within = map_of v room k m s view map in
+    let few : slot < member_count_of (map_at m (volume_at k (block_in v.items))) = subst (λ (x : Buffer). slot < member_count_of (map_at m (volume_at k (parts_of x)))) (sym view) member in
+    let volume : IsVolume (volume_at k (block_in v.items)) = volume_is v.items k kept.laid below in
+    let here : IsMap (map_at m (volume_at k (block_in v.items))) = all-at IsMap m (volume_at k (block_in v.items)).maps blank_map volume.maps (omega (arith, volume.count)) in
+    map_done v ws now (little_bytes 4 order) room k m place (48 + 4 * slot) 4 s (map_with_order slot order) view kept below within put is refl (omega arith) (omega arith) (omega arith)
+    (entry_put (map_at m (volume_at k (block_in v.items))) slot (little_bytes 4 order) here few) (order-is (map_at m (volume_at k (block_in v.items))) slot order here few)
+
+-- A PASS
+
+length-pass_at : (at kind unit mark : ℕ) (bytes : List ℕ) → at + 112 ≤ length bytes → length (with_pass_at at kind unit mark bytes) ≡ length bytes
+length-pass_at at kind unit mark bytes inside =
+    let one : List ℕ = with_number_at 1 (at + 89) kind bytes in
+    let two : List ℕ = with_number_at 4 (at + 84) mark one in
+    let three : List ℕ = with_number_at 4 (at + 80) (unit % 2 ^ 32) two in
+    let len1 : length one + 1 ≡ length bytes + 1 = length-replaced (at + 89) 1 (little_bytes 1 kind) bytes (omega arith) in
+    let len2 : length two + 4 ≡ length one + 4 = length-replaced (at + 84) 4 (little_bytes 4 mark) one (omega arith) in
+    let len3 : length three + 4 ≡ length two + 4 = length-replaced (at + 80) 4 (little_bytes 4 (unit % 2 ^ 32)) two (omega arith) in
+    let len4 : length (with_pass_at at kind unit mark bytes) + 4 ≡ length three + 4 = length-replaced (at + 96) 4 (little_bytes 4 (unit / 2 ^ 32)) three (omega arith) in
+    omega arith
+
+pub pass_done : (v : Vec ℕ) (ws now read : List ℕ) (room at k kind unit : ℕ) (s : Buffer) → seen v room ≡ s → IsKept v.items room v.cap → k < volume_count_of (parts_of s) →
+    read ≡ v.items → IsVolumePlace at k read → ws ≡ with_pass_at at kind unit 0x494d0001 now → now ≡ v.items →
+    IsDone v ws room s (λ b. block_with_pass b k kind unit)
+pass_done v ws now read room at k kind unit s view kept there same placed put is =
+    let here : IsVolumePlace at k v.items = subst (IsVolumePlace at k) same placed in
+    let place = here.place in
+    let inside = here.inside in
+    let b : Block = block_in v.items in
+    let x : Volume = volume_at k b in
+    let block : IsBlock b = block_is v.items kept.laid in
+    let below = volume_of v room k s view there in
+    let volume : IsVolume x = volume_is v.items k kept.laid below in
+    let within : k < length b.volumes = omega (arith, block.volume_count) in
+    let made : ws ≡ with_pass_at at kind unit 0x494d0001 v.items = put ∙ ap (with_pass_at at kind unit 0x494d0001) is in
+    done v ws room s (λ y. block_with_pass y k kind unit) view kept
+    (
+    made
+    ∙ pass_put (before_volume k b) (behind_volume k b) v.items x at kind unit 0x494d0001 (fields_in x volume) (omega (arith, volume_placed k b block)) (laid_apart v.items ∙ volume_around k b blank_volume within)
+    ∙ sym (volume_laid k (volume_with_pass kind unit) b blank_volume within)
+    )
+    (ap (λ (y : List ℕ). length y) made ∙ length-pass_at at kind unit 0x494d0001 v.items (omega arith))
+    (with_volume-is k (volume_with_pass kind unit) b blank_volume block (pass-is x kind unit 0x494d0001 volume)) kept.laid.size
