@@ -5,6 +5,8 @@
 mod facts;
 mod marks;
 mod states;
+#[cfg(test)]
+mod tests;
 
 pub use facts::EditFacts;
 pub use marks::{mark_clean, mark_dirty, mark_point};
