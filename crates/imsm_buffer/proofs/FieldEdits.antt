@@ -14,7 +14,7 @@ use Rattle.imsm_base.proofs.Spliced.{set-lengths}
 use Rattle.imsm_base.proofs.Edited.{fields_of}
 use Rattle.imsm_buffer.specs.Places.{disk_place, volume_place, with_pass_at}
 use Rattle.imsm_buffer.proofs.Replaced.{replaced, replaced-front, replaced-behind, replaced-between, replaced-field, length-changed_at, all-changed_at, all-at}
-use Rattle.imsm_buffer.proofs.Tables.{before_disk, behind_disk, disk_laid, disk_around, disk_placed, before_volume, behind_volume, volume_laid, volume_around, volume_placed, before_map, behind_map, map_laid, map_around, map_placed, HasFields}
+use Rattle.imsm_buffer.proofs.Around.{before_disk, behind_disk, disk_laid, disk_around, disk_placed, before_volume, behind_volume, volume_laid, volume_around, volume_placed, before_map, behind_map, map_laid, map_around, map_placed, HasFields}
 
 -- A RECORD'S FIELD
 
@@ -71,7 +71,7 @@ state_step before behind y w v k place is there inside long at laid =
     ∙ replaced-between before (volume_bytes v) behind w place (80 + total (take k state_lengths)) (get_or state_lengths k 0) at (omega arith)
     ∙ ap (λ (x : List ℕ). before ++ (x ++ behind)) (state_put v k w is there inside)
 
-volume_long : (v : Volume) → HasFields v → 112 ≤ length (volume_bytes v)
+pub volume_long : (v : Volume) → HasFields v → 112 ≤ length (volume_bytes v)
 volume_long v is =
     omega (
       arith,

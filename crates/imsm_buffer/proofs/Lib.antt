@@ -1,6 +1,9 @@
 pub mod Kept
 pub mod Replaced
-pub mod Tables
+pub mod Around
 pub mod FieldEdits
 pub mod Placed
 pub mod Done
+pub mod New
+pub mod Recorded
+pub mod TableEdits

@@ -13,7 +13,7 @@ use Rattle.imsm_codec.specs.Laid.{IsLaid}
 use Rattle.imsm_codec.specs.Mpb.{volume_at, map_at, blank_volume}
 use Rattle.imsm_buffer.specs.Places.{volume_place, map_place}
 use Rattle.imsm_buffer.proofs.Replaced.{all-at}
-use Rattle.imsm_buffer.proofs.Tables.{before_volume, behind_volume, volume_around, volume_placed, before_map, behind_map, map_around, map_placed, fields_in}
+use Rattle.imsm_buffer.proofs.Around.{before_volume, behind_volume, volume_around, volume_placed, before_map, behind_map, map_around, map_placed, fields_in}
 
 -- what is laid is a block
 pub block_is : (bytes : List ℕ) → IsLaid bytes → IsBlock (block_in bytes)
@@ -50,7 +50,7 @@ map_inside bytes v m laid volume map inside =
     omega (arith, maps_inside m (volume_at v (block_in bytes)).maps blank_map (omega (arith, is.count)))
 
 -- what stands at a map's place begins with the map
-map_found : (bytes : List ℕ) (v m : ℕ) → IsLaid bytes → v < volume_count_of (block_in bytes) → m < map_count_of (volume_at v (block_in bytes)) →
+pub map_found : (bytes : List ℕ) (v m : ℕ) → IsLaid bytes → v < volume_count_of (block_in bytes) → m < map_count_of (volume_at v (block_in bytes)) →
     map_in (drop (map_place v m (block_in bytes)) bytes) ≡ map_at m (volume_at v (block_in bytes))
 map_found bytes v m laid volume map =
     let b : Block = block_in bytes in

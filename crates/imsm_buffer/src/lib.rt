@@ -5,9 +5,13 @@ mod buffer;
 mod bytes;
 mod fault;
 mod fields;
+mod moves;
 mod places;
+mod record;
+mod tables;
 #[cfg(test)]
 mod tests;
 
 pub use buffer::MpbBuf;
 pub use fault::{CodecFault, NoRoom};
+pub use record::DiskRecord;

@@ -41,3 +41,14 @@ pub(crate) fn map_place(bytes: &[u8], v: u8, m: u8) -> usize
         first + map_len(behind(bytes, first))
     }
 }
+
+/// How many bytes a volume's map takes.
+pub(crate) fn map_size(bytes: &[u8], v: u8, m: u8) -> usize
+    requires laid { IsLaid bytes.now }
+    requires volume { v < volume_count_of (block_in bytes.now) }
+    requires map { m < map_count_of (volume_at v (block_in bytes.now)) }
+    ensures size { result ≡ map_room (map_at m (volume_at v (block_in bytes.now))) }
+    ensures bound { result < 2048 }
+{
+    map_len(behind(bytes, map_place(bytes, v, m)))
+}

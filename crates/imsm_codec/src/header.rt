@@ -1,5 +1,6 @@
 //! The fields of a metadata block's header (`struct imsm_super` of super-intel.c).
 ghost use Rattle.std.specs.Prelude.{◌≡◌, ◌+◌, ◌*◌, ◌^◌, ◌<◌, ◌≤◌, length, take, drop};
+ghost use Rattle.imsm_base.specs.declared.bounds.TheConstants.{MAX_BLOCK_BYTES};
 ghost use Rattle.imsm_base.specs.Layout.{size_of, checksum_of, family_of, orig_family_of, generation_of, attributes_of, disk_count_of, volume_count_of, tail_size_of};
 ghost use Rattle.imsm_codec.specs.Laid.{IsLaid};
 ghost use Rattle.imsm_codec.specs.Mpb.{block_bytes, block_of};
@@ -11,7 +12,8 @@ use imsm_base::get_u32;
 impl<'a> MpbRef<'a> {
     /// A view of bytes that are laid out as a block's.
     pub fn of_laid(bytes: &'a [u8]) -> MpbRef<'a>
-        requires { IsLaid bytes.now }
+        requires laid { IsLaid bytes.now }
+        requires short { length bytes.now ≤ MAX_BLOCK_BYTES }
         ensures { block_bytes result ≡ bytes.now }
     {
         MpbRef { bytes }
@@ -19,7 +21,8 @@ impl<'a> MpbRef<'a> {
 
     /// The bytes of the block, `mpb_size` of them.
     pub fn bytes(&self) -> &'a [u8]
-        ensures { result.now ≡ block_bytes self.now }
+        ensures bytes { result.now ≡ block_bytes self.now }
+        ensures most { length result.now ≤ MAX_BLOCK_BYTES }
     {
         self.bytes
     }

@@ -1,4 +1,6 @@
 //! Views of a metadata block.
+ghost use Rattle.std.specs.Prelude.{◌≤◌, length};
+ghost use Rattle.imsm_base.specs.declared.bounds.TheConstants.{MAX_BLOCK_BYTES};
 ghost use Rattle.imsm_codec.specs.Laid.{IsLaid};
 
 /// A view of the bytes of a metadata block.
@@ -6,4 +8,5 @@ ghost use Rattle.imsm_codec.specs.Laid.{IsLaid};
 pub struct MpbRef<'a> {
     pub(crate) bytes: &'a [u8],
     ghost laid: { IsLaid bytes.now },
+    ghost short: { length bytes.now ≤ MAX_BLOCK_BYTES },
 }

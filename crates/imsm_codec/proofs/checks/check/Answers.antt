@@ -1,8 +1,10 @@
-use Rattle.std.proofs.Common.{◌≡◌, ℕ, take, sym, subst, List, refl}
+use Rattle.std.proofs.Common.{◌≡◌, ◌≤◌, ℕ, length, take, sym, subst, List, refl, arith}
 use Rattle.std.proofs.lemmas.Result.{err_from_is_err_and}
+use Rattle.std.proofs.lemmas.List.{length-take}
+use Rattle.imsm_base.specs.declared.bounds.TheConstants.{MAX_BLOCK_BYTES}
 use Rattle.imsm_base.specs.Whole.{IsWholeBlock}
 use Rattle.imsm_base.specs.Parts.{block_in}
-use Rattle.imsm_codec.specs.Given.{given_block}
+use Rattle.imsm_codec.specs.Given.{size_in, given_block, IsGiven}
 use Rattle.imsm_codec.specs.Laid.{IsLaid}
 use Rattle.imsm_codec.specs.Checked.{IsChecked, HasBlockFault}
 use Rattle.imsm_codec.proofs.Wholeness.{whole_from_checks, laid_from_checks}
@@ -14,6 +16,9 @@ use Rattle.imsm_codec.proofs.checks.check.Goals as goal
 -- what is said of the first n bytes holds of the block, where n is its size
 of_block : (P : List ℕ → Type 0) (n m : ℕ) (bytes : List ℕ) → n ≡ m → P (take n bytes) → P (take m bytes)
 of_block P n m bytes e p = subst (λ (i : ℕ). P (take i bytes)) e p
+
+taken_short : (n : ℕ) (bytes : List ℕ) → n ≡ size_in bytes → IsGiven bytes → length (take n bytes) ≤ MAX_BLOCK_BYTES
+taken_short n bytes is given = let most = given.sized.sized.most in omega (arith, length-take n bytes)
 
 pub returns-in_err-check_front-clause-ok : goal.returns-in_err-check_front-clause-ok
 returns-in_err-check_front-clause-ok c =
@@ -30,6 +35,7 @@ pub invariant_of-result : goal.invariant_of-result
 invariant_of-result c = record {
   laid = of_block IsLaid _ _ c.args.bytes.now (sym c.get_u32.ensures)
       (laid_from_checks c.args.bytes.now c.in_ok-check_front.ensures (of_block IsChecked _ _ c.args.bytes.now c.get_u32.ensures (c.in_ok-check_parts.ensures)));
+  short = taken_short c.get_u32.result c.args.bytes.now c.get_u32.ensures c.in_ok-check_front.ensures;
 }
 
 pub returns-clause-whole : goal.returns-clause-whole
