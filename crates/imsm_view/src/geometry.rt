@@ -3,8 +3,8 @@ ghost use Rattle.std.specs.Prelude.{◌≡◌, ◌≢◌, ◌+◌, ◌-◌, ◌*
 ghost use Rattle.std.specs.List.{list_all};
 ghost use Rattle.imsm_base.specs.declared.bounds.TheConstants.{METADATA_SECTORS as METADATA};
 ghost use Rattle.imsm_base.specs.declared.units.Level.TheVariants.{One};
-ghost use Rattle.imsm_base.specs.Layout.{volume_count_of, member_count_of, disk_count_of, total_blocks_of, map_count_of};
-ghost use Rattle.imsm_base.specs.Volumes.{first_map, member, members, volume_level, volume_rows, rows_of, rounded_up, data_members, has_sectors, is_like, has_geometry};
+ghost use Rattle.imsm_base.specs.Layout.{volume_count_of, member_count_of, map_count_of};
+ghost use Rattle.imsm_base.specs.Volumes.{first_map, member, members, volume_level, rows_of, rounded_up, data_members, has_sectors, is_like, has_geometry};
 ghost use Rattle.imsm_codec.specs.Mpb.{block_of, volume_at, map_at};
 ghost use Rattle.imsm_view.specs.Views.{IsGeometry, has_room};
 

@@ -1,8 +1,7 @@
 //! What a view of a volume answers.
-ghost use Rattle.std.specs.Prelude.{◌≡◌, ◌<◌, ◌≤◌, ◌&&◌, ◌||◌, map, not, Some};
+ghost use Rattle.std.specs.Prelude.{◌≡◌, ◌<◌, ◌&&◌, ◌||◌, map, not, Some, false};
 ghost use Rattle.std.specs.List.{list_any, count_by};
 ghost use Rattle.std.specs.Option.{option_map_or};
-ghost use Rattle.std.specs.Prelude.{false};
 ghost use Rattle.imsm_base.specs.Volumes.{suffices};
 ghost use Rattle.imsm_view.specs.Questions.{is_slot_in_sync, is_in_sync_at, is_resync, is_unfinished, is_degraded, can_run, is_resumed, pass_start, wants_pass};
 

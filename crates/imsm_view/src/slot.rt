@@ -1,9 +1,9 @@
 //! A volume's slots: the disks that they name, and whether these are in sync.
-ghost use Rattle.std.specs.Prelude.{◌≡◌, ◌<◌, ◌≤◌, ◌==◌, ◌&&◌, ◌%◌, ℕ, map, take, Some, None, MatchOption, true, false};
+ghost use Rattle.std.specs.Prelude.{◌≡◌, ◌<◌, ◌≤◌, ◌==◌, ◌&&◌, ◌%◌, map, take, Some, None, MatchOption, true, false};
 ghost use Rattle.std.specs.List.{list_any};
 ghost use Rattle.std.specs.Int.{bit_at};
 ghost use Rattle.imsm_base.specs.Layout.{volume_count_of, map_count_of, member_count_of, disk_count_of};
-ghost use Rattle.imsm_base.specs.Volumes.{first_map, order_at, member, members, is_bad_slot, bad_slot, is_expected_at, volume_level, has_geometry};
+ghost use Rattle.imsm_base.specs.Volumes.{first_map, order_at, member, members, is_bad_slot, bad_slot, is_expected_at, has_geometry};
 ghost use Rattle.imsm_codec.specs.Mpb.{block_of, volume_at, map_at};
 ghost use Rattle.imsm_view.specs.Views.{slot_view};
 
