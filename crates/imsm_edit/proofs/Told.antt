@@ -104,7 +104,7 @@ dirty_pass on v =
     (ap number (get_or-set_other v.state 4 2 w [] (λ e. omega arith)))
     (ap number (get_or-set_other v.state 4 3 w [] (λ e. omega arith)))
 
-number-one : (n : ℕ) → n < 256 → number (little_bytes 1 n) ≡ n
+pub number-one : (n : ℕ) → n < 256 → number (little_bytes 1 n) ≡ n
 number-one n small = omega arith
 
 pub point_pass : (unit : ℕ) (v : Volume) → length v.state ≡ 10 → migration_type_of v < 256 → pass_of (at_point unit v) ≡ pass_of v

@@ -7,7 +7,7 @@ use Rattle.std.specs.List.{list_any}
 use Rattle.imsm_base.specs.Layout.{Block, Volume, migration_type_of}
 use Rattle.imsm_base.specs.Volumes.{members, is_expected_at, has_pass, has_pass_of, volume_fault}
 use Rattle.imsm_base.specs.Edits.{volume_with_dirty}
-use Rattle.imsm_base.specs.EditsOfTables.{with_volume, with_map, map_with_state, volume_with_pass}
+use Rattle.imsm_base.specs.EditsOfTables.{with_volume, with_map, map_with_state, volume_with_pass, volume_with_migration}
 use Rattle.imsm_codec.specs.Mpb.{volume_at}
 use Rattle.imsm_view.specs.declared.volume.Volume.{Volume as View}
 use Rattle.imsm_view.specs.Views.{pass_of, slot_view}
@@ -79,3 +79,13 @@ at_point unit v = volume_with_pass (migration_type_of v) unit v
 
 abbrev pub marked_point : Block → ℕ → Bool → ℕ → Block
 marked_point b k broken unit = edited b k broken (at_point unit)
+
+-- a pass of this type is open, and at its first row
+abbrev pub with_migration : Volume → Volume
+with_migration v = if has_pass v then v else volume_with_migration v
+
+abbrev pub with_pass : ℕ → Volume → Volume
+with_pass kind v = volume_with_pass kind 0 (with_migration v)
+
+abbrev pub started_pass : Block → ℕ → Bool → ℕ → Block
+started_pass b k broken kind = edited b k broken (with_pass kind)

@@ -14,7 +14,7 @@ use imsm_buffer::MpbBuf;
 use imsm_view::{Volume, volume_of};
 
 /// The view of a volume that is supported.
-fn view_of(book: &MpbBuf, v: VolNo) -> Volume
+pub(crate) fn view_of(book: &MpbBuf, v: VolNo) -> Volume
     requires volume { v.0 < volume_count_of (parts_of book.now) }
     requires supported { volume_fault (parts_of book.now) v.0 (volume_at v.0 (parts_of book.now)) ≡ None }
     ensures { IsVolume (parts_of book.now) (volume_at v.0 (parts_of book.now)) result }

@@ -3,10 +3,10 @@ ghost use Rattle.std.specs.Prelude.{◌≡◌, IfSome, true};
 ghost use Rattle.imsm_buffer.specs.Buffer.{parts_of};
 ghost use Rattle.imsm_edit.specs.Meanings.{AreFacts, is_told};
 
-use crate::{EditFacts, mark_clean, mark_dirty, mark_point};
+use crate::{EditFacts, mark_clean, mark_dirty, mark_point, start_pass};
 use arrayvec::ArrayVec;
 use imsm_base::VolNo;
-use imsm_buffer::MpbBuf;
+use imsm_buffer::{MpbBuf, NoRoom};
 use imsm_codec::check;
 use imsm_view::volume_of;
 
@@ -116,4 +116,41 @@ fn marks_a_mirror(rt: HostRuntime) {
         (399, 0x49),
     ]);
     assert!(rt; book.bytes() == point.as_slice());
+}
+
+/// A pass takes a second map of 56 bytes; the first then has the state that the volume comes from, and the second the
+/// state that it has.
+#[test]
+fn opens_a_pass(rt: HostRuntime) {
+    let out = changed(&[(35, 0x48), (479, 1)]);
+    let Ok(mpb) = check(&out) else {
+        assert!(rt; false);
+        return;
+    };
+    for (room, answer) in [
+        (
+            535,
+            Err(NoRoom {
+                needed: 536,
+                room: 535,
+            }),
+        ),
+        (536, Ok(())),
+    ] {
+        let Ok(mut book) = MpbBuf::from_ref(rt.alloc(), &mpb, room) else {
+            assert!(rt; false);
+            return;
+        };
+        let Some(facts) = facts_of(&book) else {
+            assert!(rt; false);
+            return;
+        };
+        assert_eq!(rt; start_pass(&mut book, VolNo(0), 1, &facts), answer);
+        if answer.is_ok() {
+            assert_eq!(rt; book.bytes().len(), 536);
+            assert_eq!(rt; book.bytes().get(400..402), Some([1, 1].as_slice()));
+            assert_eq!(rt; book.bytes().get(438).copied(), Some(0));
+            assert_eq!(rt; book.bytes().get(494).copied(), Some(2));
+        }
+    }
 }
