@@ -251,22 +251,16 @@ fn runs_nothing(rt: HostRuntime) -> Result<(), Fail> {
 
 /// The script has no line but empty ones.
 #[test]
-fn reads_so_many_bytes(rt: HostRuntime) -> Result<(), Fail> {
+fn reads_no_more_than_8_388_608_bytes(rt: HostRuntime) -> Result<(), Fail> {
     let alloc = rt.alloc();
     let text = vec![in alloc; 0x0a; MAX_SOURCE_BYTES + 1]?;
-    let rows: [(usize, u8, &str); 2] = [
-        (MAX_SOURCE_BYTES, 0, NOTHING_TO_DO),
-        (MAX_SOURCE_BYTES + 1, 10, "limit bytes 8388609\n"),
-    ];
-    for (count, status, lines) in rows {
-        let case = Case {
-            script: &text[..count],
-            ..Case::of(BOTH)
-        };
-        let (ended, written) = case.run(alloc, pair(alloc)?)?;
-        assert_eq!(rt; written.as_slice(), lines.as_bytes());
-        assert_eq!(rt; ended, Status(status));
-    }
+    let case = Case {
+        script: text.as_slice(),
+        ..Case::of(BOTH)
+    };
+    let (ended, written) = case.run(alloc, pair(alloc)?)?;
+    assert_eq!(rt; written.as_slice(), b"limit bytes 8388609\n".as_slice());
+    assert_eq!(rt; ended, Status(10));
     Ok(())
 }
 
