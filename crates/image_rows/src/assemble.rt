@@ -1,19 +1,10 @@
 //! `assemble` over two images.
-use crate::images::{Case, blank, member};
-use image_run::{MemFile, Status};
-use std::alloc::Global;
+use crate::images::{Case, member, pair};
+use image_run::Status;
 use std::test::Fail;
 
 const STARTED: &str =
     "family 6d257059 generation 1\nvolume 0 started\ndisk A member\ndisk B member\n";
-
-fn pair(alloc: Global) -> Result<Vec<MemFile>, Fail> {
-    Ok(vec![in alloc;
-        member(alloc, "a", &[])?,
-        member(alloc, "b", &[])?,
-        blank(alloc, "x", 4096)?,
-    ]?)
-}
 
 #[test]
 fn prints_the_verdict(rt: HostRuntime) -> Result<(), Fail> {

@@ -3,7 +3,7 @@ ghost use Rattle.std.specs.Prelude.{◌≡◌, length, IfOk};
 
 use image_run::{MemFile, MemShelf, MemSink, MemSource, Status, image_main};
 use imsm_base::Sector;
-use member_bank::{FailAt, LogRoom};
+use member_bank::{FailAt, LogRoom, MemDisk};
 use std::alloc::Global;
 use std::test::Fail;
 
@@ -63,10 +63,21 @@ pub fn member(alloc: Global, name: &str, changes: &[(usize, u8)]) -> Result<MemF
     Ok(file)
 }
 
-/// A command, what fails in it, and the room of its sink.
+/// The two members of the container, in files a and b, and a blank file x.
+pub fn pair(alloc: Global) -> Result<Vec<MemFile>, Fail> {
+    Ok(vec![in alloc;
+        member(alloc, "a", &[])?,
+        member(alloc, "b", &[])?,
+        blank(alloc, "x", 4096)?,
+    ]?)
+}
+
+/// A command with its script, what fails in it, and the room of its sink.
 #[derive(Clone, Copy)]
 pub struct Case<'a> {
     pub words: &'a [&'static str],
+    pub script: &'a [u8],
+    pub reads: &'a [u64],
     pub opens: &'a [u64],
     pub calls: &'a [u64],
     pub writes: &'a [u64],
@@ -74,10 +85,12 @@ pub struct Case<'a> {
 }
 
 impl<'a> Case<'a> {
-    /// A command in which nothing fails.
+    /// A command without a script, in which nothing fails.
     pub fn of(words: &'a [&'static str]) -> Case<'a> {
         Case {
             words,
+            script: &[],
+            reads: &[],
             opens: &[],
             calls: &[],
             writes: &[],
@@ -87,10 +100,33 @@ impl<'a> Case<'a> {
 
     /// Runs the command over files, and gives its status and what it printed.
     pub fn run(&self, alloc: Global, files: Vec<MemFile>) -> Result<(Status, Vec<u8>), Fail> {
+        let (status, written, _) = self.run_on(alloc, files)?;
+        Ok((status, written))
+    }
+
+    /// Runs the command over files, and gives its status, what it printed, and the disks that were opened as they are
+    /// afterwards.
+    pub fn run_on(
+        &self,
+        alloc: Global,
+        files: Vec<MemFile>,
+    ) -> Result<(Status, Vec<u8>, Vec<MemDisk>), Fail> {
         let mut words = Vec::new(alloc);
         for word in self.words {
             words.push(String::from_str(alloc, word)?)?;
         }
+        let mut shelf = self.shelf(alloc, files)?;
+        let mut sink = MemSink::new(alloc, self.writes.to_vec(alloc)?, self.room)?;
+        let mut source = MemSource::new(self.script.to_vec(alloc)?, self.reads.to_vec(alloc)?);
+        let status = image_main(alloc, words.as_slice(), &mut shelf, &mut source, &mut sink);
+        let disks = match shelf.into_bank() {
+            Some(bank) => bank.into_disks(),
+            None => Vec::new(alloc),
+        };
+        Ok((status, sink.written().to_vec(alloc)?, disks))
+    }
+
+    fn shelf(&self, alloc: Global, files: Vec<MemFile>) -> Result<MemShelf, Fail> {
         let mut device = Vec::new(alloc);
         for call in self.calls {
             device.push(FailAt {
@@ -99,13 +135,9 @@ impl<'a> Case<'a> {
             })?;
         }
         let room = LogRoom {
-            calls: 16,
-            sectors: 0,
+            calls: 64,
+            sectors: 16,
         };
-        let mut shelf = MemShelf::new(alloc, files, self.opens.to_vec(alloc)?, device, room)?;
-        let mut sink = MemSink::new(alloc, self.writes.to_vec(alloc)?, self.room)?;
-        let mut source = MemSource::new(Vec::new(alloc), Vec::new(alloc));
-        let status = image_main(alloc, words.as_slice(), &mut shelf, &mut source, &mut sink);
-        Ok((status, sink.written().to_vec(alloc)?))
+        Ok(MemShelf::new(alloc, files, self.opens.to_vec(alloc)?, device, room)?)
     }
 }

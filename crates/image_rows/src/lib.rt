@@ -6,4 +6,6 @@ mod assemble;
 #[cfg(test)]
 mod images;
 #[cfg(test)]
+mod replay;
+#[cfg(test)]
 mod source;

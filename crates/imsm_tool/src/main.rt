@@ -75,14 +75,19 @@ mod tests {
         file.write_all_at(&[1], ANCHOR + 476)
     }
 
-    fn run<K: Sink>(rt: &HostRuntime, words: &[&str], sink: &mut K) -> Result<u8, AllocError> {
+    fn run<K: Sink>(
+        rt: &HostRuntime,
+        words: &[&str],
+        script: &str,
+        sink: &mut K,
+    ) -> Result<u8, AllocError> {
         let alloc = rt.alloc();
         let mut all = Vec::new(alloc);
         for word in words {
             all.push(String::from_str(alloc, word)?)?;
         }
         let mut shelf = FileShelf::new(alloc, rt);
-        let mut source = InSource::new(io::empty());
+        let mut source = InSource::new(script.as_bytes());
         let Status(number) = image_main(alloc, all.as_slice(), &mut shelf, &mut source, sink);
         Ok(number)
     }
@@ -134,17 +139,41 @@ mod tests {
         write_image(&rt, "b.img")?;
         let both = ["assemble", "A=a.img", "B=b.img"];
         let mut lines = Vec::new(rt.alloc());
-        assert_eq!(rt; run(&rt, &both, &mut OutSink::new(&mut lines))?, 0);
+        assert_eq!(rt; run(&rt, &both, "", &mut OutSink::new(&mut lines))?, 0);
         let told =
             b"family 6d257059 generation 1\nvolume 0 started\ndisk A member\ndisk B member\n";
         assert_eq!(rt; lines.as_slice(), told.as_slice());
-        assert_eq!(rt; run(&rt, &both, &mut OutSink::new(Unflushed))?, 6);
+        assert_eq!(rt; run(&rt, &both, "", &mut OutSink::new(Unflushed))?, 6);
         fs::remove_file(&rt, "b.img")?;
         assert_eq!(rt;
-            run(&rt, &both, &mut OutSink::new(Vec::new(rt.alloc())))?,
+            run(&rt, &both, "", &mut OutSink::new(Vec::new(rt.alloc())))?,
             7
         );
         fs::remove_file(&rt, "a.img")?;
+        Ok(())
+    }
+
+    #[test]
+    fn a_write_is_read_back_from_two_files(rt: HostRuntime) -> Result<(), Fail> {
+        write_image(&rt, "c.img")?;
+        write_image(&rt, "d.img")?;
+        let words = ["replay", "A=c.img", "B=d.img"];
+        let script = "client 0 write 0 5 1122334455667788\nclient 0 read 0 5\n";
+        let mut lines = Vec::new(rt.alloc());
+        assert_eq!(rt; run(&rt, &words, script, &mut OutSink::new(&mut lines))?, 0);
+        let told =
+            b"0 begin 2\n4 end 2\n4 ready 0\n4 submit 0\n4 pending 0\n4 begin 3\n8 end 3\n8 active 0\n\
+            12 ack 0 done\n12 submit 1\n13 ack 1 value 1122334455667788\n13 idle 0\n13 clean 0\n13 begin 4\n\
+            17 end 4\ndone\n";
+        assert_eq!(rt; lines.as_slice(), told.as_slice());
+        let value = [0x11, 0x22, 0x33, 0x44, 0x55, 0x66, 0x77, 0x88];
+        for path in ["c.img", "d.img"] {
+            let file = File::open(&rt, path)?;
+            let mut bytes = [0; 8];
+            file.read_exact_at(&mut bytes, 5 * 512 + 504)?;
+            assert_eq!(rt; bytes, value);
+            fs::remove_file(&rt, path)?;
+        }
         Ok(())
     }
 }
