@@ -106,12 +106,16 @@ map_without_disk i m = record m { entries = map (λ e. little_bytes 4 (lowered i
 abbrev pub volume_without_disk : ℕ → Volume → Volume
 volume_without_disk i v = record v { maps = map (map_without_disk i) v.maps }
 
-abbrev pub block_without_disk : Block → ℕ → Block
-block_without_disk b i = record b {
+-- the record of an index has left
+abbrev pub block_without_record : Block → ℕ → Block
+block_without_record b i = record b {
   header = counting_disks (length b.disks - 1) b.header;
   disks = remove b.disks i;
-  volumes = map (volume_without_disk i) b.volumes;
 }
+
+-- and with it the entries are lowered
+abbrev pub block_without_disk : Block → ℕ → Block
+block_without_disk b i = record (block_without_record b i) { volumes = map (volume_without_disk i) b.volumes }
 
 -- A NEW BLOCK
 

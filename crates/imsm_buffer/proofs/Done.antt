@@ -1,5 +1,5 @@
 -- What an edit of the owned bytes leaves is the edited block, laid end to end.
-use Rattle.std.proofs.Common.{◌≡◌, ◌≢◌, ℕ, ◌+◌, ◌*◌, ◌/◌, ◌%◌, ◌^◌, ◌≤◌, ◌<◌, List, [], ◌++◌, length, take, drop, get_or, refl, sym, ◌∙◌, ap, subst, arith}
+use Rattle.std.proofs.Common.{◌≡◌, ◌≢◌, ℕ, ◌+◌, ◌*◌, ◌/◌, ◌%◌, ◌^◌, ◌≤◌, ◌<◌, List, [], ◌++◌, length, take, drop, get_or, refl, sym, ◌∙◌, ap, subst, arith, ◌-◌}
 use Rattle.std.specs.List.{concat}
 use Rattle.std.specs.Global.{Vec}
 use Rattle.std.specs.Vec.{with_items}
@@ -11,7 +11,7 @@ use Rattle.imsm_base.specs.Layout.{Block, Volume, Map, Spells, HasLengths, IsMap
 use Rattle.imsm_base.specs.Volumes.{blank_map, first_map}
 use Rattle.imsm_base.specs.Parts.{block_in, maps_room, map_room, volume_room}
 use Rattle.imsm_base.specs.Edits.{with_field}
-use Rattle.imsm_base.specs.EditsOfTables.{with_volume, with_map, block_with_status, map_with_order, block_with_order, map_with_state, block_with_state, volume_with_name, block_with_name, volume_with_pass, block_with_pass, block_with_disk, volume_with_migration, block_with_migration, volume_without_migration, block_without_migration}
+use Rattle.imsm_base.specs.EditsOfTables.{with_volume, with_map, block_with_status, map_with_order, block_with_order, map_with_state, block_with_state, volume_with_name, block_with_name, volume_with_pass, block_with_pass, block_with_disk, volume_with_migration, block_with_migration, volume_without_migration, block_without_migration, block_without_record}
 use Rattle.imsm_base.proofs.Apart.{laid_apart, length-disks}
 use Rattle.imsm_base.proofs.Joined.{block_in-spelled, length-volume_bytes}
 use Rattle.imsm_base.proofs.Spliced.{set-lengths}
@@ -23,7 +23,7 @@ use Rattle.imsm_buffer.proofs.Kept.{laid_as}
 use Rattle.imsm_buffer.proofs.Replaced.{replaced, length-replaced, all-at}
 use Rattle.imsm_buffer.proofs.Around.{with_disk-is, with_volume-is, before_volume, behind_volume, volume_laid, volume_around, volume_placed, fields_in}
 use Rattle.imsm_buffer.proofs.FieldEdits.{disk_field_laid, in_volume, device_put, pass_put, pass-is, in_map, map_field_put, entry_put, with_map-is, order-is, map_state-is, name-is}
-use Rattle.imsm_buffer.proofs.TableEdits.{with_disk_more-is, disk_laid_more, length-disk_more, opened_laid, closed_laid, opened-is, closed-is, opened-room, closed-room, closed_maps, opened_maps}
+use Rattle.imsm_buffer.proofs.TableEdits.{with_disk_more-is, disk_laid_more, length-disk_more, with_disk_less-is, disk_laid_less, length-disk_less, opened_laid, closed_laid, opened-is, closed-is, opened-room, closed-room, closed_maps, opened_maps}
 use Rattle.imsm_buffer.proofs.Placed.{block_is, volume_is, maps_inside}
 
 -- the bytes after an edit, as the buffer's clauses say it
@@ -317,3 +317,23 @@ open_inside old read second capacity room k volume len s view kept there closed 
     let inside = here.inside in
     let room_of_map : len ≡ map_room (first_map x) = map_size_of old second k 0 len again size in
     omega (arith, opened-room x (volume_is old k kept.laid below) idle, ap maps_room (closed_maps x (volume_is old k kept.laid below) idle))
+
+-- A RECORD LESS
+
+pub drop_done : (old after read : List ℕ) (capacity more room count others place i : ℕ) (s : Buffer) → seen_as old room ≡ s → IsKept old room capacity → capacity ≤ more → count < 256 →
+    i < disk_count_of (parts_of s) → count ≡ number_at 1 56 read → read ≡ old → others ≡ count - 1 → place ≡ disk_place i →
+    after ≡ with_number_at 1 56 others (take place old ++ drop (place + 48) old) → IsMade after more room s (λ b. block_without_record b i)
+drop_done old after read capacity more room count others place i s view kept grows few there counted same less at put =
+    let b : Block = block_in old in
+    let block : IsBlock b = block_is old kept.laid in
+    let below : i < disk_count_of b = subst (λ (x : Buffer). i < disk_count_of (parts_of x)) (sym view) there in
+    let inside : i < length b.disks = omega (arith, block.disk_count) in
+    let number : count ≡ length b.disks = counted ∙ ap (number_at 1 56) same ∙ sym (length-disks old) in
+    let left : others ≡ length b.disks - 1 = less ∙ ap (λ (n : ℕ). n - 1) number in
+    let new : IsBlock (block_without_record b i) = with_disk_less-is b i block inside (omega arith) in
+    let laid : after ≡ bytes_of (block_without_record b i) =
+    put ∙ ap (λ (n : ℕ). with_number_at 1 56 others (take n old ++ drop (n + 48) old)) at ∙ ap (λ (n : ℕ). with_number_at 1 56 n (take (disk_place i) old ++ drop (disk_place i + 48) old)) left ∙ disk_laid_less b i old block inside (laid_apart old) in
+    let fits = kept.fits in
+    made old after capacity more room s (λ x. block_without_record x i) view kept grows laid
+    (omega (arith, ap (λ (x : List ℕ). length x) laid, ap (λ (x : List ℕ). length x) (laid_apart old), length-disk_less b i block inside new)) new
+    (subst (λ (n : ℕ). n ≤ MAX_BLOCK_BYTES) (sym (other_field b 8 3 (little_bytes 1 (length b.disks - 1)) (λ e. omega arith))) kept.laid.size)

@@ -7,3 +7,4 @@ pub mod Done
 pub mod New
 pub mod Recorded
 pub mod TableEdits
+pub mod Lowered

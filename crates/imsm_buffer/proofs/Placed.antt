@@ -72,7 +72,7 @@ map_found bytes v m laid volume map =
     regrouped : (h a e r s : List ℕ) → h ++ ((a ++ (e ++ r)) ++ s) ≡ (h ++ a) ++ (e ++ (r ++ s))
     regrouped h a e r s = simp append_assoc
 
-two_at_most : (v : Volume) → map_count_of v ≤ 2
+pub two_at_most : (v : Volume) → map_count_of v ≤ 2
 two_at_most v = one_or_two (migration_state_of v == 0)
   where
     one_or_two : (none : Bool) → (if none then 1 else 2) ≤ 2
@@ -95,3 +95,10 @@ second_place bytes v m first len laid volume map later at is =
     first_room : (ms : List Map) → 0 < length ms → maps_room (take 1 ms) ≡ map_room (get_or ms 0 blank_map)
     first_room [] some = absurd (omega arith)
     first_room (y ∷ ms) some = omega arith
+
+pub one_at_least : (v : Volume) → 0 < map_count_of v
+one_at_least v = one_or_two (migration_state_of v == 0)
+  where
+    one_or_two : (none : Bool) → 0 < (if none then 1 else 2)
+    one_or_two true = omega arith
+    one_or_two false = omega arith

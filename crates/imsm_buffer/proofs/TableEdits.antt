@@ -1,7 +1,7 @@
 -- Runs of bytes that are put in or taken out at the place of a part make the bytes of the block with that part put in or
 -- taken out.
-use Rattle.std.proofs.Common.{◌≡◌, ◌≢◌, ℕ, zero, suc, ◌+◌, ◌≤◌, ◌<◌, ◌==◌, if◌then◌else◌, Bool, true, false, List, [], ◌∷◌, ◌++◌, length, take, drop, get_or, refl, sym, ◌∙◌, ap, arith}
-use Rattle.std.specs.List.{concat, flat_map, AllByRecursion}
+use Rattle.std.proofs.Common.{◌≡◌, ◌≢◌, ℕ, zero, suc, ◌+◌, ◌≤◌, ◌<◌, ◌==◌, if◌then◌else◌, Bool, true, false, List, [], ◌∷◌, ◌++◌, length, take, drop, get_or, refl, sym, ◌∙◌, ap, arith, ◌-◌}
+use Rattle.std.specs.List.{concat, flat_map, remove, AllByRecursion}
 use Rattle.std.proofs.lemmas.List.{append_assoc, append-nil, take_at, drop_at, length-append, get_or-set_same}
 use Rattle.std.proofs.Math.Dec.{eqb-suc-zero}
 use Rattle.std.proofs.lemmas.Grind.{flat_map-append}
@@ -12,14 +12,14 @@ use Rattle.imsm_base.specs.Layout.{Block, Volume, Map, HasLengths, IsMap, IsVolu
 use Rattle.imsm_base.specs.Parts.{volume_room, maps_room, map_room}
 use Rattle.imsm_base.specs.Volumes.{blank_map, first_map}
 use Rattle.imsm_base.specs.Edits.{with_field}
-use Rattle.imsm_base.specs.EditsOfTables.{counting_disks, block_with_disk, volume_with_migration, volume_without_migration}
+use Rattle.imsm_base.specs.EditsOfTables.{counting_disks, block_with_disk, block_without_record, volume_with_migration, volume_without_migration}
 use Rattle.imsm_base.proofs.Cut.{length-part}
 use Rattle.imsm_base.proofs.Joined.{length-disks_bytes, length-bytes_of, length-map_bytes}
 use Rattle.imsm_base.proofs.Spliced.{set-lengths}
 use Rattle.imsm_base.proofs.Edited.{fields_of, other_field}
 use Rattle.imsm_buffer.specs.Places.{disk_place, with_pass_at}
 use Rattle.imsm_buffer.proofs.Replaced.{replaced, replaced-front, replaced-field, all-at}
-use Rattle.imsm_buffer.proofs.Around.{HasFields, fields_in}
+use Rattle.imsm_buffer.proofs.Around.{HasFields, fields_in, before_disk, behind_disk, disk_around, disk_placed}
 use Rattle.imsm_buffer.proofs.FieldEdits.{state_step, pass_put, pass-is, state_kept, volume_long}
 
 -- A RUN OF BYTES
@@ -102,6 +102,62 @@ length-disk_more b disk is new =
       new.disk_count,
       length-append b.disks (disk ∷ []),
       other_field b 8 13 (little_bytes 1 (length b.disks + 1)) (λ e. omega arith),
+    )
+
+-- A RECORD LESS
+
+all-remove : {A : Type 0} (P : A → Type 0) (i : ℕ) (xs : List A) → AllByRecursion P xs → AllByRecursion P (remove xs i)
+all-remove P zero [] all = tt
+all-remove P (suc i) [] all = tt
+all-remove P zero (x ∷ xs) all = all.1
+all-remove P (suc i) (x ∷ xs) all = (all.0, all-remove P i xs all.1)
+
+length-remove : {A : Type 0} (i : ℕ) (xs : List A) → i < length xs → length (remove xs i) + 1 ≡ length xs
+length-remove i [] below = absurd (omega arith)
+length-remove zero (x ∷ xs) below = omega arith
+length-remove (suc i) (x ∷ xs) below = omega (arith, length-remove i xs (omega arith))
+
+pub with_disk_less-is : (b : Block) (i : ℕ) → IsBlock b → i < length b.disks → length b.disks < 256 → IsBlock (block_without_record b i)
+with_disk_less-is b i is below few = record {
+  header = set-lengths header_lengths b.header 8 (little_bytes 1 (length b.disks - 1)) is.header refl;
+  disks = all-remove (HasLengths disk_lengths) i b.disks is.disks;
+  disk_count = omega (arith, length-remove i b.disks below) ∙ sym (counted b (length b.disks - 1) is (omega arith));
+  volumes = is.volumes;
+  volume_count = is.volume_count ∙ sym (other_field b 8 9 (little_bytes 1 (length b.disks - 1)) (λ e. omega arith));
+  tail = is.tail ∙ sym (other_field b 8 13 (little_bytes 1 (length b.disks - 1)) (λ e. omega arith));
+}
+
+pub disk_laid_less : (b : Block) (i : ℕ) (y : List ℕ) → IsBlock b → i < length b.disks → y ≡ bytes_of b →
+    with_number_at 1 56 (length b.disks - 1) (take (disk_place i) y ++ drop (disk_place i + 48) y) ≡ bytes_of (block_without_record b i)
+disk_laid_less b i y is below laid =
+    let H : List ℕ = concat b.header in
+    let A : List ℕ = flat_map concat (take i b.disks) in
+    let B : List ℕ = flat_map concat (drop (suc i) b.disks) in
+    let R : List ℕ = flat_map volume_bytes b.volumes ++ (b.gap ++ b.tail) in
+    let disk : Part = get_or b.disks i [] in
+    let n : ℕ = length b.disks - 1 in
+    let w : List ℕ = little_bytes 1 n in
+    let header : length H ≡ 216 = length-part header_lengths b.header is.header in
+    let lengths : HasLengths disk_lengths disk = all-at (HasLengths disk_lengths) i b.disks [] is.disks below in
+    let out = taken_between (before_disk i b) (concat disk) (behind_disk i b) y (disk_place i) 48 (disk_placed i b is below) (length-part disk_lengths disk lengths) (laid ∙ disk_around i b below) in
+    ap (replaced 56 1 w) (out ∙ regrouped H A B R)
+    ∙ replaced-front 56 1 w H ((A ++ B) ++ R) (omega arith)
+    ∙ ap (λ (x : List ℕ). x ++ ((A ++ B) ++ R)) (replaced-field header_lengths b.header 8 w is.header (omega (arith, fields_of header_lengths b.header is.header)))
+    ∙ ap (λ (x : List ℕ). concat (counting_disks n b.header) ++ (x ++ R)) (sym (flat_map-append concat (take i b.disks) (drop (suc i) b.disks)))
+  where
+    regrouped : (h a b r : List ℕ) → (h ++ a) ++ (b ++ r) ≡ h ++ ((a ++ b) ++ r)
+    regrouped h a b r = simp append_assoc
+
+pub length-disk_less : (b : Block) (i : ℕ) → IsBlock b → i < length b.disks → IsBlock (block_without_record b i) → length (bytes_of (block_without_record b i)) + 48 ≡ length (bytes_of b)
+length-disk_less b i is below new =
+    omega (
+      arith,
+      length-bytes_of b is,
+      length-bytes_of (block_without_record b i) new,
+      is.disk_count,
+      new.disk_count,
+      length-remove i b.disks below,
+      other_field b 8 13 (little_bytes 1 (length b.disks - 1)) (λ e. omega arith),
     )
 
 -- A MIGRATION

@@ -8,6 +8,7 @@ mod fields;
 mod moves;
 mod places;
 mod record;
+mod removal;
 mod tables;
 #[cfg(test)]
 mod tests;
