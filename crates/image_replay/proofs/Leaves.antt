@@ -1,5 +1,5 @@
 -- What a stage leaves, that was opened on images that start.
-use Rattle.std.proofs.Common.{◌≡◌, ℕ, ◌+◌, Bool, true, List, [], ◌++◌, length, drop, Option, Some, None, refl, ap, sym, subst, ◌∙◌, arith, length-append, ◌||◌}
+use Rattle.std.proofs.Common.{◌≡◌, ℕ, ◌+◌, true, List, ◌++◌, length, drop, Option, Some, None, refl, ap, sym, subst, ◌∙◌, arith, length-append, ◌||◌}
 use Rattle.std.specs.Prelude.{nat_lt, nat_le, ◌^◌}
 use Rattle.std.specs.List.{list_all}
 use Rattle.std.proofs.lemmas.List.{drop_at}
@@ -7,20 +7,16 @@ use Rattle.imsm_base.specs.declared.units.Sector.{Sector}
 use Rattle.imsm_base.specs.declared.units.Serial.{Serial}
 use Rattle.device_log.specs.Log.{Call}
 use Rattle.array_model.specs.Kept.{ScriptState, asked_by}
-use Rattle.array_model.specs.Script.{Asked}
-use Rattle.array_model.specs.declared.script.Op.{Op}
-use Rattle.array_model.specs.declared.journal.Entry.{Entry}
-use Rattle.array_model.specs.Blocks.{Laid}
 use Rattle.member_bank.specs.Faults.{Rose}
 use Rattle.control_state.specs.Book.{laid_at}
 use Rattle.control_state.specs.Seen.{numbers}
-use Rattle.stage_machine.specs.Machine.{Control, begins_at}
+use Rattle.stage_machine.specs.Machine.{Control}
 use Rattle.first_opening.specs.Opened.{Opened, targets_of, members_of, is_first_op}
 use Rattle.first_opening.specs.Copies.{first_copy, differs}
 use Rattle.stage.specs.declared.open.Opening.{Opening}
 use Rattle.stage.specs.declared.ends.DriveEnd.{DriveEnd}
 use Rattle.stage.specs.declared.ends.DriveEnd.TheVariants.{Over, Full, Member}
-use Rattle.stage.specs.Stages.{Given, Seen, is_full, setting_of}
+use Rattle.stage.specs.Stages.{Given, Seen}
 use Rattle.stage.specs.Opens.{given_by, IsOpened}
 use Rattle.stage.specs.Drives.{Follows, EndsBy, AllStill}
 use Rattle.stage.specs.Causes.{KeepsBank}
@@ -89,7 +85,7 @@ module _ {B : Type 0} (serials : B → List Serial) (sizes : B → List ℕ) (op
 
   pub leaves : (KeepsForm (start_on o (first_copy o) (differs o)) (asked_by script) last.calls last.journal)
       → ((all : List Call) → log last.bank ≡ Some all → (run : List Call) × IsSince last.calls all run × KeepsLaws o (asked_by script) (opening last.bank) run last.journal
-          × (AsksRows script.ops → AllStill last → IsLeftClean (start_on o (first_copy o) (differs o)) run last.journal))
+      × (AsksRows script.ops → AllStill last → IsLeftClean (start_on o (first_copy o) (differs o)) run last.journal))
       → (AsksRows script.ops → AllStill last → AllAnswered script.ops last.journal)
       → LeavesRun opening log o (asked_by script) limit (λ d. Rose (faults bank d) (faults last.bank d)) (log bank) last.bank last.journal end
   leaves form laws answered = record {

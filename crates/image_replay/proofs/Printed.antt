@@ -1,5 +1,5 @@
 -- A run whose status is one of its own.
-use Rattle.std.proofs.Common.{◌≡◌, ℕ, ◌⊎◌, inl, inr, sym, ◌∙◌}
+use Rattle.std.proofs.Common.{◌≡◌, ℕ, ◌⊎◌, inl, inr}
 use Rattle.stage.specs.declared.ends.DriveEnd.{DriveEnd}
 use Rattle.image_replay.specs.Ends.{IsRan, end_status}
 

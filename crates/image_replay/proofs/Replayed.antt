@@ -1,5 +1,5 @@
 -- A run on the images of a bank is a replay on its disks.
-use Rattle.std.proofs.Common.{◌≡◌, ◌+◌, ◌≤◌, ℕ, List, ◌++◌, length, map, Option, Some, None, ap, sym, subst, ◌∙◌, arith}
+use Rattle.std.proofs.Common.{◌≡◌, ◌≤◌, ℕ, List, ◌++◌, length, map, Option, Some, None, subst, arith}
 use Rattle.std.specs.Prelude.{IfSome}
 use Rattle.imsm_base.specs.declared.units.Sector.{Sector}
 use Rattle.imsm_base.specs.declared.units.Serial.{Serial}
@@ -10,7 +10,6 @@ use Rattle.array_model.specs.declared.journal.Entry.{Entry}
 use Rattle.member_bank.specs.Faults.{Rose}
 use Rattle.member_bank.specs.Told.{Keeps}
 use Rattle.journal_text.specs.Lines.{journal_text}
-use Rattle.first_opening.specs.Opened.{Opened}
 use Rattle.stage.specs.declared.ends.DriveEnd.{DriveEnd}
 use Rattle.stage.specs.declared.ends.DriveEnd.TheVariants.{Over, Full, Member}
 use Rattle.image_outside.specs.Outside.{Adds, OnlyReads}
@@ -20,7 +19,7 @@ use Rattle.image_start.specs.Starts.{Starts, StandIn}
 use Rattle.image_start.specs.Openings.{opened_on}
 use Rattle.image_start.proofs.Contents.{filled, some-stand}
 use Rattle.image_replay.specs.Lines.{end_line}
-use Rattle.image_replay.specs.Runs.{HasEnded, LeavesRun}
+use Rattle.image_replay.specs.Runs.{HasEnded}
 use Rattle.image_replay.specs.Replays.{Plays, Replays}
 use Rattle.image_replay.proofs.Held.{Told, Stands, stands_by, told_stands, held_by}
 

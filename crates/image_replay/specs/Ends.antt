@@ -1,5 +1,5 @@
 -- How a replay ends. Source: this project's own.
-use Rattle.std.specs.Prelude.{◌≡◌, ◌⊎◌, ℕ, ◌==◌, Bool, true, false, List}
+use Rattle.std.specs.Prelude.{◌≡◌, ◌⊎◌, ℕ, ◌==◌, Bool, List}
 use Rattle.std.specs.List.{list_any}
 use Rattle.array_model.specs.declared.script.Op.{Op}
 use Rattle.array_model.specs.declared.script.OpKind.{OpKind}

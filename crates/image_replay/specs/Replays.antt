@@ -1,5 +1,5 @@
 -- What a replay says of a bank's disks and leaves of them. Source: this project's own.
-use Rattle.std.specs.Prelude.{◌≡◌, ℕ, true, List, ◌++◌, length, map, Option, Some}
+use Rattle.std.specs.Prelude.{◌≡◌, ℕ, List, ◌++◌, Option, Some}
 use Rattle.imsm_base.specs.declared.units.Sector.{Sector}
 use Rattle.imsm_base.specs.declared.units.Serial.{Serial}
 use Rattle.device_log.specs.Log.{Call}

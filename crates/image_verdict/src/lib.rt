@@ -8,7 +8,7 @@ mod text;
 mod verdict;
 
 pub use images::{ImageRead, read_images};
-pub use report::Report;
 pub use print::print_report;
+pub use report::Report;
 pub use text::{digits_of, is_plain, name_bytes, text_of};
 pub use verdict::report_on;

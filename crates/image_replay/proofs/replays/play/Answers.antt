@@ -1,4 +1,4 @@
-use Rattle.std.proofs.Common.{List, ℕ, subst, sym, ap, ◌∙◌}
+use Rattle.std.proofs.Common.{List, subst, sym}
 use Rattle.imsm_base.specs.declared.units.Serial.{Serial}
 use Rattle.array_model.specs.declared.journal.Entry.{Entry}
 use Rattle.image_outside.specs.Outside.{Adds}

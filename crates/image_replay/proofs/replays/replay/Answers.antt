@@ -1,13 +1,6 @@
-use Rattle.std.proofs.Common.{◌≡◌, ◌++◌, List, ℕ, Bool, true, Option, length, subst, sym, ap, ◌∙◌, arith, refl}
-use Rattle.std.specs.Prelude.{◌≢◌}
-use Rattle.std.specs.List.{AllPairs}
-use Rattle.imsm_base.specs.declared.units.Sector.{Sector}
-use Rattle.imsm_base.specs.declared.units.Serial.{Serial}
-use Rattle.device_log.specs.Log.{Call}
+use Rattle.std.proofs.Common.{List, subst, sym, ◌∙◌, refl}
 use Rattle.image_verdict.specs.declared.images.ImageRead.{ImageRead}
-use Rattle.image_verdict.specs.Images.{serials_of_all, sizes_of_all}
 use Rattle.image_verdict.specs.Reports.{IsReport}
-use Rattle.image_start.specs.Starts.{IsStarted, Starts}
 use Rattle.image_replay.proofs.Scripts.{asks_rows, asks_first}
 use Rattle.image_replay.proofs.Held.{started_of, starts_as, told_started}
 use Rattle.image_replay.specs.Replays.{Plays}
@@ -39,7 +32,7 @@ returns-clause-replayed g c ran =
     let images = c.in-Ok.images.items in
     let read = c.in-Ok.ensures in
     let starts = starts_as images images c.as_slice.result.now (B.serials c.args.bank) c.report_on-report.result refl c.as_slice.ensures.value c.report_on-report.ensures
-        (sym c.starts.ensures ∙ c.if-not-starts.false) c.requires.some read.count read.few read.named read.distinct in
+    (sym c.starts.ensures ∙ c.if-not-starts.false) c.requires.some read.count read.few read.named read.distinct in
     replayed B.serials B.sizes B.opening B.log B.faults_of c.args.script.now c.args.limit (g.K.Sink.written c.args.sink.now) (g.K.Sink.written c.play.new.sink) c.play.result.1.0
     c.args.bank c.read_images.new.bank c.play.result.0 images starts read.named read.sized read.told read.measured read.reads read.later read.serials c.play.ensures.opening
     (subst (λ (is : List ImageRead). Plays B.serials B.opening B.log B.faults_of is c.args.script.now c.args.limit (g.K.Sink.written c.args.sink.now) (g.K.Sink.written c.play.new.sink) c.play.result.1.0 c.read_images.new.bank c.play.result.0)

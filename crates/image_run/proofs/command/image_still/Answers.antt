@@ -30,5 +30,5 @@ returns-clause-played g c limit images named played =
     let same : words_of c.as_slice-in-Replay.result.now ≡ images = ap words_of c.as_slice-in-Replay.ensures.value ∙ only.1 in
     let it = c.replay_images.ensures.played played in
     let on : List ImageWord → ℕ → Type 0 = λ is n. IsSomeAnd (g.H.Shelf.held c.replay_images.new.shelf)
-        (PlaysOn B.serials B.sizes B.opening B.log B.faults_of (serials_named is) it.0 n (g.K.Sink.written c.args.sink.now) (g.K.Sink.written c.replay_images.new.sink) c.replay_images.result.0) in
+    (PlaysOn B.serials B.sizes B.opening B.log B.faults_of (serials_named is) it.0 n (g.K.Sink.written c.args.sink.now) (g.K.Sink.written c.replay_images.new.sink) c.replay_images.result.0) in
     (it.0, it.1, subst (λ n. on images n) (same_limit c.in-Replay.limit limit c.in-Ok.command.verb c.in-Replay.is only.0) (subst (λ is. on is c.in-Replay.limit) same it.2))
