@@ -115,7 +115,12 @@ impl<'a> Case<'a> {
         for word in self.words {
             words.push(String::from_str(alloc, word)?)?;
         }
-        let mut shelf = self.shelf(alloc, files)?;
+        let room = LogRoom {
+            calls: 64,
+            sectors: 16,
+        };
+        let opens = self.opens.to_vec(alloc)?;
+        let mut shelf = MemShelf::new(alloc, files, opens, self.device(alloc)?, room)?;
         let mut sink = MemSink::new(alloc, self.writes.to_vec(alloc)?, self.room)?;
         let mut source = MemSource::new(self.script.to_vec(alloc)?, self.reads.to_vec(alloc)?);
         let status = image_main(alloc, words.as_slice(), &mut shelf, &mut source, &mut sink);
@@ -126,7 +131,7 @@ impl<'a> Case<'a> {
         Ok((status, sink.written().to_vec(alloc)?, disks))
     }
 
-    fn shelf(&self, alloc: Global, files: Vec<MemFile>) -> Result<MemShelf, Fail> {
+    fn device(&self, alloc: Global) -> Result<Vec<FailAt>, Fail> {
         let mut device = Vec::new(alloc);
         for call in self.calls {
             device.push(FailAt {
@@ -134,10 +139,6 @@ impl<'a> Case<'a> {
                 kept: 0,
             })?;
         }
-        let room = LogRoom {
-            calls: 64,
-            sectors: 16,
-        };
-        Ok(MemShelf::new(alloc, files, self.opens.to_vec(alloc)?, device, room)?)
+        Ok(device)
     }
 }

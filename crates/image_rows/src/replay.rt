@@ -31,7 +31,7 @@ const NOTHING_TO_DO: &str = "0 begin 2\n4 end 2\n4 ready 0\ndone\n";
 /// Some bytes of a sector of a disk.
 fn part_of(disk: &MemDisk, sector: usize, from: usize, to: usize) -> &[u8] {
     match disk.sectors.get(sector) {
-        Some(sector) => &sector.0[from..to],
+        Some(sector) => sector.0.get(from..to).unwrap_or(&[]),
         None => &[],
     }
 }
