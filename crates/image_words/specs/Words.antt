@@ -51,6 +51,9 @@ assemble_word = codes "assemble"
 abbrev pub replay_word : List ℕ
 replay_word = codes "replay"
 
+abbrev pub examine_word : List ℕ
+examine_word = codes "examine"
+
 abbrev pub journal_word : List ℕ
 journal_word = codes "--journal"
 
@@ -78,9 +81,15 @@ pub record IsReplay (words : List (List ℕ)) (limit : ℕ) (images : List Image
   pub words_are : words ≡ replay_word ∷ (option ++ map spelled images)
   pub named : AreImages images
 
+-- the command `examine NAME=FILE`
+pub record IsExamine (words : List (List ℕ)) (images : List ImageWord) : Type 0 where
+  pub words_are : words ≡ examine_word ∷ map spelled images
+  pub named : AreImages images
+  pub alone : length images ≡ 1
+
 -- the command of words names these images
 abbrev pub Names : List (List ℕ) → List ImageWord → Type 0
-Names words images = IsAssemble words images ⊎ ((limit : ℕ) × IsReplay words limit images)
+Names words images = IsAssemble words images ⊎ ((limit : ℕ) × IsReplay words limit images) ⊎ IsExamine words images
 
 -- the grammar of words
 abbrev pub IsCommand : List (List ℕ) → Type 0

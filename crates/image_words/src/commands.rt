@@ -1,7 +1,7 @@
 //! The commands that are in the grammar.
 ghost use Rattle.std.specs.Prelude.{◌≡◌, ◌<◌, ◌≤◌, ◌&&◌, nat_le, List, length, map, Err, IsTrue, IfOk};
 ghost use Rattle.image_words.specs.Words.{ImageWord, IsCommand, IsWithinLimit, IsPastLimit, are_distinct, spelled, texts};
-ghost use Rattle.image_words.specs.Args.{Asks, words_of};
+ghost use Rattle.image_words.specs.Args.{Asks, fits, words_of};
 
 use crate::verbs::{Verb, split_verb};
 use crate::words::{ImageArg, WordsFault, are_apart, images_of};
@@ -15,10 +15,11 @@ pub struct Command<'a> {
     pub images: Vec<ImageArg<'a>>,
 }
 
-fn are_some_apart(images: &[ImageArg<'_>]) -> bool
-    ensures { result ≡ (nat_le 1 (length images.now) && are_distinct (words_of images.now)) }
+/// Whether images are some, each apart from the others, and as many as fit what is done with them.
+fn are_taken(verb: Verb, images: &[ImageArg<'_>]) -> bool
+    ensures { result ≡ ((nat_le 1 (length images.now) && are_distinct (words_of images.now)) && fits verb (length images.now)) }
 {
-    !images.is_empty() && are_apart(images)
+    !images.is_empty() && are_apart(images) && verb.fits(images.len())
 }
 
 /// The command of words. The grammar comes before the limit of images.
@@ -36,7 +37,7 @@ pub fn parse(alloc: Global, words: &[String]) -> Result<Command<'_>, WordsFault>
         return Err(WordsFault::Words);
     };
     let images = images_of(alloc, named)?;
-    if !are_some_apart(images.as_slice()) {
+    if !are_taken(verb, images.as_slice()) {
         return Err(WordsFault::Words);
     }
     if images.len() > MAX_DISKS {

@@ -19,7 +19,7 @@ fn asked(alloc: Global, words: &[&'static str]) -> Result<Asked, Fail> {
 
 #[test]
 fn takes_the_commands(rt: HostRuntime) -> Result<(), Fail> {
-    let rows: [(&[&'static str], Verb, usize); 6] = [
+    let rows: [(&[&'static str], Verb, usize); 7] = [
         (&["assemble", "A=a"], Verb::Assemble, 1),
         (&["assemble", "A=a", "--journal=b"], Verb::Assemble, 2),
         (
@@ -42,6 +42,7 @@ fn takes_the_commands(rt: HostRuntime) -> Result<(), Fail> {
             Verb::Replay { limit: 1_048_576 },
             2,
         ),
+        (&["examine", "A=a"], Verb::Examine, 1),
     ];
     for (words, verb, images) in rows {
         assert!(rt; asked(rt.alloc(), words)? == Ok((verb, images)));
@@ -51,7 +52,7 @@ fn takes_the_commands(rt: HostRuntime) -> Result<(), Fail> {
 
 #[test]
 fn refuses_other_words(rt: HostRuntime) -> Result<(), Fail> {
-    let rows: [&[&'static str]; 14] = [
+    let rows: [&[&'static str]; 16] = [
         &[],
         &["replay"],
         &["replay", "--journal", "4"],
@@ -66,6 +67,8 @@ fn refuses_other_words(rt: HostRuntime) -> Result<(), Fail> {
         &["replay", "A=a", "--journal", "5"],
         &["--journal", "5", "replay", "A=a"],
         &["assemble", "--journal", "5", "A=a"],
+        &["examine"],
+        &["examine", "A=a", "B=b"],
     ];
     for words in rows {
         assert!(rt; asked(rt.alloc(), words)? == Err(WordsFault::Words));

@@ -3,7 +3,7 @@ ghost use Rattle.std.specs.Prelude.{◌≡◌, ◌^◌, ◌≤◌, nat_lt, ℕ, 
 ghost use Rattle.std.specs.List.{AllByRecursion};
 ghost use Rattle.std.specs.Option.{IsSomeAnd};
 ghost use Rattle.image_words.specs.Words.{HasJournal, ImageWord, IsImageWord, IsLimit, spelled, texts};
-ghost use Rattle.image_words.specs.Args.{Asks, Begins};
+ghost use Rattle.image_words.specs.Args.{Asks, Begins, fits};
 
 /// The fewest entries that a journal is limited to. The number is this project's own.
 const MIN_LIMIT: u32 = 4;
@@ -11,12 +11,25 @@ const MIN_LIMIT: u32 = 4;
 /// The most, and the limit of a journal where none is given. The number is this project's own.
 const MAX_LIMIT: u32 = 1_048_576;
 
-/// What a command does with its images: it assembles them, or it runs a script over them, with a journal of at most so
-/// many entries.
+/// What a command does with its images: it assembles them, runs a script over them with a journal of at most so many
+/// entries, or examines the one that it names.
 #[derive(Clone, Copy, Debug, PartialEq, Eq)]
 pub enum Verb {
     Assemble,
     Replay { limit: u32 },
+    Examine,
+}
+
+impl Verb {
+    /// Whether so many images fit what is done with them.
+    pub fn fits(self, images: usize) -> bool
+        ensures { result ≡ fits self images }
+    {
+        match self {
+            Verb::Assemble | Verb::Replay { .. } => true,
+            Verb::Examine => images == 1,
+        }
+    }
 }
 
 /// Whether a word begins with a byte above `0`, as digits do that have no sign and no zero in front.
@@ -83,6 +96,9 @@ pub fn split_verb(words: &[String]) -> Option<(Verb, &[String])>
 {
     if let Some(named) = behind("assemble", words) {
         return Some((Verb::Assemble, named));
+    }
+    if let Some(named) = behind("examine", words) {
+        return Some((Verb::Examine, named));
     }
     let given = behind("replay", words)?;
     let (limit, named) = split_journal(given)?;
