@@ -1,34 +1,41 @@
 -- The first words tell what a command does in one way.
-use Rattle.std.proofs.Common.{◌≡◌, ◌≢◌, ◌&&◌, inl, inr, ℕ, List, [], ◌∷◌, ◌++◌, Bool, true, false, length, map, refl, sym, ◌∙◌, ap, subst, arith}
+use Rattle.std.proofs.Common.{Option, Some, None, IfSome, ◌≡◌, ◌≢◌, ◌&&◌, inl, inr, ℕ, List, [], ◌∷◌, ◌++◌, Bool, true, false, length, map, refl, sym, ◌∙◌, ap, subst, arith}
 use Rattle.std.specs.Prelude.{not, ◌==◌, nat_le}
-use Rattle.std.specs.List.{list_all}
+use Rattle.std.specs.List.{AllByRecursion, list_all}
 use Rattle.std.proofs.lemmas.Bool.{false≢true}
 use Rattle.std.proofs.lemmas.Bool.Decides.{nat_tests}
 use Rattle.image_words.specs.declared.verbs.Verb.{Verb}
-use Rattle.image_words.specs.declared.verbs.Verb.TheVariants.{Assemble, Examine, Replay}
-use Rattle.image_words.specs.Words.{HasJournal, ImageWord, IsLimit, AreImages, Names, are_distinct, assemble_word, examine_word, journal_word, replay_word, spelled}
-use Rattle.image_words.specs.Args.{Asks, Begins, fits}
+use Rattle.image_words.specs.declared.verbs.Verb.TheVariants.{Assemble, Create, Examine, Replay}
+use Rattle.image_words.specs.Words.{AreImages, HasJournal, ImageWord, IsImageWord, IsLimit, Names, are_distinct, assemble_word, container_fits, create_word, examine_word, is_in_range, journal_word, replay_word, second_fits, spelled, volume_fits}
+use Rattle.image_words.specs.declared.volumes.NewContainer.{NewContainer}
+use Rattle.image_words.specs.declared.volumes.NewVolume.{NewVolume}
+use Rattle.image_words.specs.Args.{AreInRange, Asks, Begins, Makes, fits}
+
+and_left : (a b : Bool) → (a && b) ≡ true → a ≡ true
+and_left true b both = refl
+and_left false b both = both
 
 and_right : (a b : Bool) → (a && b) ≡ true → b ≡ true
 and_right true b both = both
 and_right false b both = absurd (false≢true both)
 
 -- a word that names an image has a `=`
-is_other : ℕ → Bool
+abbrev pub is_other : ℕ → Bool
 is_other c = not (c == 0x3d)
 
 has_equals : (xs ys : List ℕ) → list_all is_other (xs ++ 0x3d ∷ ys) ≡ true → ⊥
-unfolding is_other
 has_equals [] ys all = false≢true all
 has_equals (x ∷ xs) ys all = has_equals xs ys (and_right (is_other x) _ all)
 
--- so no image is named by the option
+-- so no image is named by a word without one
+pub no_image_word : (images : List ImageWord) (word : List ℕ) (rest : List (List ℕ)) → list_all is_other word ≡ true → map spelled images ≡ word ∷ rest → ⊥
+no_image_word [] word rest other same = absurd (cc)
+no_image_word (w ∷ ws) word rest other same =
+    let first : spelled w ≡ word = cc in
+    has_equals w.name w.file (subst (λ (l : List ℕ). list_all is_other l ≡ true) (sym first) other)
+
 pub no_image : (images : List ImageWord) (rest : List (List ℕ)) → map spelled images ≡ journal_word ∷ rest → ⊥
-unfolding is_other
-no_image [] rest same = absurd (cc)
-no_image (w ∷ ws) rest same =
-    let first : spelled w ≡ journal_word = cc in
-    has_equals w.name w.file (subst (λ (l : List ℕ). list_all is_other l ≡ true) (sym first) refl)
+no_image images rest same = no_image_word images journal_word rest refl same
 
 pub first_same : (word other : List ℕ) (xs ys : List (List ℕ)) → word ∷ xs ≡ other ∷ ys → word ≡ other
 first_same word other xs ys same = cc
@@ -58,6 +65,22 @@ examine-ne_replay : examine_word ≢ replay_word
 unfolding head
 examine-ne_replay same = absurd (false≢true (ap (λ (w : List ℕ). head w == 0x72) same))
 
+create-ne_replay : create_word ≢ replay_word
+unfolding head
+create-ne_replay same = absurd (false≢true (ap (λ (w : List ℕ). head w == 0x72) same))
+
+assemble-ne_create : assemble_word ≢ create_word
+unfolding head
+assemble-ne_create same = absurd (false≢true (ap (λ (w : List ℕ). head w == 0x63) same))
+
+examine-ne_create : examine_word ≢ create_word
+unfolding head
+examine-ne_create same = absurd (false≢true (ap (λ (w : List ℕ). head w == 0x63) same))
+
+replay-ne_create : replay_word ≢ create_word
+unfolding head
+replay-ne_create same = absurd (false≢true (ap (λ (w : List ℕ). head w == 0x63) same))
+
 -- the words behind `replay` are the option's and the images'
 pub replay_asked : (words given : List (List ℕ)) (verb : Verb) (images : List ImageWord) → words ≡ replay_word ∷ given → Asks words verb images
     → (limit : ℕ) × (option : List (List ℕ)) × (verb ≡ Replay limit) × HasJournal limit option × AreImages images × (given ≡ option ++ map spelled images)
@@ -67,28 +90,52 @@ replay_asked words given (Replay limit) images split is =
     (limit, is.option, refl, is.given, is.named, rest_same replay_word replay_word given (is.option ++ map spelled images) (sym split ∙ is.words_are))
 replay_asked words given Examine images split is =
     absurd (examine-ne_replay (first_same examine_word replay_word (map spelled images) given (sym is.words_are ∙ split)))
+replay_asked words given (Create made) images split is =
+    absurd (create-ne_replay (first_same create_word replay_word _ given (sym is.words_are ∙ split)))
+
+-- the numbers of the volumes that are made are in their ranges
+volume_in_range : (v : NewVolume) (count : ℕ) → volume_fits v count ≡ true → is_in_range v ≡ true
+volume_in_range v count fit = and_left (is_in_range v) _ fit
+
+second_in_range : (second : Option NewVolume) (count : ℕ) → second_fits second count ≡ true → IfSome second (λ v. is_in_range v ≡ true)
+second_in_range None count fit = tt
+second_in_range (Some v) count fit = volume_in_range v count fit
+
+in_range : (made : NewContainer) (count : ℕ) → container_fits made count ≡ true → AreInRange made
+in_range made count fit =
+    (volume_in_range made.first count (and_left (volume_fits made.first count) _ fit), second_in_range made.second count (and_right (volume_fits made.first count) _ fit))
+
+-- the words behind `create` are the container's and the images'
+pub create_asked : (words given : List (List ℕ)) (verb : Verb) (images : List ImageWord) → words ≡ create_word ∷ given → Asks words verb images
+    → (made : NewContainer) × (verb ≡ Create made) × AreInRange made × Makes given made (map spelled images)
+create_asked words given Assemble images split is =
+    absurd (assemble-ne_create (first_same assemble_word create_word (map spelled images) given (sym is.words_are ∙ split)))
+create_asked words given (Replay limit) images split is =
+    absurd (replay-ne_create (first_same replay_word create_word _ given (sym is.words_are ∙ split)))
+create_asked words given Examine images split is =
+    absurd (examine-ne_create (first_same examine_word create_word (map spelled images) given (sym is.words_are ∙ split)))
+create_asked words given (Create made) images split is =
+    (made, refl, in_range made (length images) is.fitting, (is.option, is.given, rest_same create_word create_word given _ (sym split ∙ is.words_are)))
 
 -- what is asked for is one thing
 pub names_asked : (words : List (List ℕ)) (images : List ImageWord) → Names words images → (verb : Verb) × Asks words verb images
 names_asked words images (inl is) = (Assemble, is)
 names_asked words images (inr (inl is)) = (Replay is.0, is.1)
-names_asked words images (inr (inr is)) = (Examine, is)
-
-pub asked_names : (words : List (List ℕ)) (verb : Verb) (images : List ImageWord) → Asks words verb images → Names words images
-asked_names words Assemble images is = inl is
-asked_names words (Replay limit) images is = inr (inl (limit, is))
-asked_names words Examine images is = inr (inr is)
+names_asked words images (inr (inr (inl is))) = (Examine, is)
+names_asked words images (inr (inr (inr is))) = (Create is.0, is.1)
 
 pub asked_images : (words : List (List ℕ)) (verb : Verb) (images : List ImageWord) → Asks words verb images → AreImages images
 asked_images words Assemble images is = is.named
 asked_images words (Replay limit) images is = is.named
 asked_images words Examine images is = is.named
+asked_images words (Create made) images is = is.named
 
 -- the images of a command fit it
 pub asked_fits : (words : List (List ℕ)) (verb : Verb) (images : List ImageWord) → Asks words verb images → fits verb (length images) ≡ true
 asked_fits words Assemble images is = refl
 asked_fits words (Replay limit) images is = refl
 asked_fits words Examine images is = grind (arith, nat_tests, is.alone)
+asked_fits words (Create made) images is = is.fitting
 
 -- the images of a command are some, are apart and fit it
 pub asked_taken : (words : List (List ℕ)) (verb : Verb) (images : List ImageWord) → Asks words verb images
@@ -104,3 +151,16 @@ pub asks : (words : List (List ℕ)) (verb : Verb) (images : List ImageWord) →
 asks words Assemble images begins named fit = record { words_are = begins; named = named }
 asks words (Replay limit) images begins named fit = record { option = begins.0; given = begins.1; words_are = begins.2; named = named }
 asks words Examine images begins named fit = record { words_are = begins; named = named; alone = grind (arith, nat_tests, fit) }
+asks words (Create made) images begins named fit =
+    record { option = begins.2.0; given = begins.2.1; words_are = begins.1 ∙ ap (λ (l : List (List ℕ)). create_word ∷ l) begins.2.2; named = named; fitting = fit }
+
+-- the first words and images that are taken are the command
+pub taken_asks : (words rest : List (List ℕ)) (verb : Verb) (images : List ImageWord) → Begins words verb rest → rest ≡ map spelled images → AllByRecursion IsImageWord images
+    → ((nat_le 1 (length images) && are_distinct images) && fits verb (length images)) ≡ true → Asks words verb images
+taken_asks words rest verb images begins found each taken =
+    let apart : (nat_le 1 (length images) && are_distinct images) ≡ true = and_left (nat_le 1 (length images) && are_distinct images) (fits verb (length images)) taken in
+    let some : nat_le 1 (length images) ≡ true = and_left (nat_le 1 (length images)) (are_distinct images) apart in
+    let named : AreImages images =
+    record { one = grind (arith, nat_tests, some); each = each; distinct = and_right (nat_le 1 (length images)) (are_distinct images) apart } in
+    asks words verb images (subst (λ (l : List (List ℕ)). Begins words verb l) found begins) named
+    (and_right (nat_le 1 (length images) && are_distinct images) (fits verb (length images)) taken)

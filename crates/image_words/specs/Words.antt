@@ -1,11 +1,18 @@
 -- The words of a command. Source: this project's own.
-use Rattle.std.specs.Prelude.{◌≡◌, ℕ, ◌-◌, ◌^◌, ◌<◌, ◌≤◌, ◌==◌, ◌&&◌, ◌⊎◌, nat_le, not, Bool, true, List, [], ◌∷◌, ◌++◌, length, map, codes, replicate, String, string_bytes}
+use Rattle.std.specs.Prelude.{◌≡◌, ℕ, ◌*◌, ◌-◌, ◌%◌, ◌^◌, ◌<◌, ◌≤◌, ◌==◌, ◌&&◌, ◌||◌, ◌⊎◌, nat_le, not, Bool, true, List, [], ◌∷◌, ◌++◌, length, map, codes, replicate, Option, Some, None, if◌then◌else◌, String, string_bytes}
+use Rattle.std.specs.Char.{is_ascii_digit}
+use Rattle.std.specs.Str.Parse.{digits_value}
 use Rattle.std.specs.Str.{bytes_eq}
 use Rattle.std.specs.Fmt.{decimal}
 use Rattle.std.specs.declared.alloc.Global.{Global}
 use Rattle.std.specs.List.{AllByRecursion, list_all}
+use Rattle.imsm_base.specs.Volumes.{data_members}
+use Rattle.imsm_base.specs.declared.units.Level.{Level}
+use Rattle.imsm_base.specs.declared.units.Level.TheVariants.{One, Five, Ten}
 use Rattle.imsm_base.specs.declared.units.Serial.{Serial}
 use Rattle.imsm_base.specs.declared.bounds.TheConstants.{MAX_DISKS, SERIAL_BYTES}
+use Rattle.image_words.specs.declared.volumes.NewContainer.{NewContainer}
+use Rattle.image_words.specs.declared.volumes.NewVolume.{NewVolume}
 
 -- a word NAME=FILE
 pub record ImageWord : Type 0 where
@@ -54,6 +61,9 @@ replay_word = codes "replay"
 abbrev pub examine_word : List ℕ
 examine_word = codes "examine"
 
+abbrev pub create_word : List ℕ
+create_word = codes "create"
+
 abbrev pub journal_word : List ℕ
 journal_word = codes "--journal"
 
@@ -68,6 +78,66 @@ abbrev pub HasJournal : ℕ → List (List ℕ) → Type 0
 HasJournal limit option =
     ((option ≡ []) × (limit ≡ 2 ^ 20))
     ⊎ ((word : List ℕ) × (option ≡ journal_word ∷ word ∷ []) × IsLimit limit word)
+
+abbrev pub family_word : List ℕ
+family_word = codes "--family"
+
+-- a lower-case hexadecimal digit
+abbrev pub is_hex_digit : ℕ → Bool
+is_hex_digit c = is_ascii_digit c || (nat_le 0x61 c && nat_le c 0x66)
+
+-- a word of eight such digits, and the number of a family that it spells
+abbrev pub is_family : List ℕ → Bool
+is_family word = length word == 8 && list_all is_hex_digit word
+
+abbrev pub family_of : List ℕ → Option ℕ
+family_of word = if is_family word then Some (digits_value 16 word) else None
+
+-- the option of a family's number; where it isn't given there is none
+abbrev pub HasFamily : Option ℕ → List (List ℕ) → Type 0
+HasFamily None option = option ≡ []
+HasFamily (Some family) option = (word : List ℕ) × (option ≡ family_word ∷ word ∷ []) × (family_of word ≡ Some family)
+
+-- the word of a volume's level
+abbrev pub level_word : Level → List ℕ
+level_word One = codes "1"
+level_word Five = codes "5"
+level_word Ten = codes "10"
+
+-- the words L STRIP SIZE of a volume, and those of a second volume, if one is made
+abbrev pub volume_words : NewVolume → List (List ℕ)
+volume_words v = level_word v.level ∷ decimal v.strip ∷ decimal v.size ∷ []
+
+abbrev pub second_words : Option NewVolume → List (List ℕ)
+second_words None = []
+second_words (Some v) = volume_words v
+
+-- a volume whose strip and size are in their ranges
+abbrev pub is_in_range : NewVolume → Bool
+is_in_range v = nat_le 1 v.strip && nat_le v.strip 65535 && nat_le 1 v.size && nat_le v.size (2 ^ 40)
+
+-- the level takes so many images
+abbrev pub takes : Level → ℕ → Bool
+takes One count = count == 2
+takes Five count = nat_le 3 count && nat_le count 8
+takes Ten count = count == 4
+
+-- a size of whole stripes, where a level over so many images has stripes
+abbrev pub is_striped : Level → ℕ → ℕ → ℕ → Bool
+is_striped One count strip size = true
+is_striped Five count strip size = size % (data_members Five count * strip) == 0
+is_striped Ten count strip size = size % (data_members Ten count * strip) == 0
+
+-- a volume that is made over so many images, a second one, if there is one, and a container
+abbrev pub volume_fits : NewVolume → ℕ → Bool
+volume_fits v count = is_in_range v && (takes v.level count && is_striped v.level count v.strip v.size)
+
+abbrev pub second_fits : Option NewVolume → ℕ → Bool
+second_fits None count = true
+second_fits (Some v) count = volume_fits v count
+
+abbrev pub container_fits : NewContainer → ℕ → Bool
+container_fits made count = volume_fits made.first count && second_fits made.second count
 
 -- the command `assemble NAME=FILE..`
 pub record IsAssemble (words : List (List ℕ)) (images : List ImageWord) : Type 0 where
@@ -87,9 +157,21 @@ pub record IsExamine (words : List (List ℕ)) (images : List ImageWord) : Type 
   pub named : AreImages images
   pub alone : length images ≡ 1
 
+-- the command `create [--family H] L STRIP SIZE [L STRIP SIZE] NAME=FILE..`
+pub record IsCreate (words : List (List ℕ)) (made : NewContainer) (images : List ImageWord) : Type 0 where
+  pub option : List (List ℕ)
+  pub given : HasFamily made.family option
+  pub words_are : words ≡ create_word ∷ (option ++ (volume_words made.first ++ (second_words made.second ++ map spelled images)))
+  pub named : AreImages images
+  pub fitting : container_fits made (length images) ≡ true
+
 -- the command of words names these images
 abbrev pub Names : List (List ℕ) → List ImageWord → Type 0
-Names words images = IsAssemble words images ⊎ ((limit : ℕ) × IsReplay words limit images) ⊎ IsExamine words images
+Names words images =
+    IsAssemble words images
+    ⊎ ((limit : ℕ) × IsReplay words limit images)
+    ⊎ IsExamine words images
+    ⊎ ((made : NewContainer) × IsCreate words made images)
 
 -- the grammar of words
 abbrev pub IsCommand : List (List ℕ) → Type 0

@@ -2,11 +2,14 @@
 #![tactic(auto)]
 
 mod commands;
+mod numbers;
 #[cfg(test)]
 mod tests;
 mod verbs;
+mod volumes;
 mod words;
 
 pub use commands::{Command, parse};
 pub use verbs::Verb;
+pub use volumes::{NewContainer, NewVolume};
 pub use words::{ImageArg, WordsFault, image_of};

@@ -1,5 +1,6 @@
 //! Words that are in the grammar, and words that aren't.
-use crate::{Verb, WordsFault, parse};
+use crate::{NewContainer, NewVolume, Verb, WordsFault, parse};
+use imsm_base::Level;
 use std::alloc::Global;
 use std::test::Fail;
 
@@ -17,9 +18,21 @@ fn asked(alloc: Global, words: &[&'static str]) -> Result<Asked, Fail> {
     })
 }
 
+fn volume(level: Level, strip: u16, size: u64) -> NewVolume {
+    NewVolume { level, strip, size }
+}
+
+fn made(family: Option<u32>, first: NewVolume, second: Option<NewVolume>) -> Verb {
+    Verb::Create(NewContainer {
+        family,
+        first,
+        second,
+    })
+}
+
 #[test]
 fn takes_the_commands(rt: HostRuntime) -> Result<(), Fail> {
-    let rows: [(&[&'static str], Verb, usize); 7] = [
+    let rows: [(&[&'static str], Verb, usize); 11] = [
         (&["assemble", "A=a"], Verb::Assemble, 1),
         (&["assemble", "A=a", "--journal=b"], Verb::Assemble, 2),
         (
@@ -43,6 +56,52 @@ fn takes_the_commands(rt: HostRuntime) -> Result<(), Fail> {
             2,
         ),
         (&["examine", "A=a"], Verb::Examine, 1),
+        (
+            &["create", "1", "128", "1000", "A=a", "B=b"],
+            made(None, volume(Level::One, 128, 1000), None),
+            2,
+        ),
+        (
+            &[
+                "create", "--family", "0badcafe", "5", "65535", "262140", "A=a", "B=b", "C=c",
+            ],
+            made(
+                Some(0x0bad_cafe),
+                volume(Level::Five, 65_535, 262_140),
+                None,
+            ),
+            3,
+        ),
+        (
+            &[
+                "create",
+                "10",
+                "8",
+                "1099511627776",
+                "5",
+                "8",
+                "24",
+                "A=a",
+                "B=b",
+                "C=c",
+                "10=d",
+            ],
+            made(
+                None,
+                volume(Level::Ten, 8, 1_099_511_627_776),
+                Some(volume(Level::Five, 8, 24)),
+            ),
+            4,
+        ),
+        (
+            &["create", "1", "1", "1", "1", "1", "1", "--family=a", "1=1"],
+            made(
+                None,
+                volume(Level::One, 1, 1),
+                Some(volume(Level::One, 1, 1)),
+            ),
+            2,
+        ),
     ];
     for (words, verb, images) in rows {
         assert!(rt; asked(rt.alloc(), words)? == Ok((verb, images)));
@@ -52,7 +111,7 @@ fn takes_the_commands(rt: HostRuntime) -> Result<(), Fail> {
 
 #[test]
 fn refuses_other_words(rt: HostRuntime) -> Result<(), Fail> {
-    let rows: [&[&'static str]; 16] = [
+    let rows: [&[&'static str]; 39] = [
         &[],
         &["replay"],
         &["replay", "--journal", "4"],
@@ -69,6 +128,37 @@ fn refuses_other_words(rt: HostRuntime) -> Result<(), Fail> {
         &["assemble", "--journal", "5", "A=a"],
         &["examine"],
         &["examine", "A=a", "B=b"],
+        &["create", "A=a", "B=b"],
+        &["create", "1", "128", "1000"],
+        &["create", "1", "128", "1000", "A=a"],
+        &["create", "1", "128", "A=a", "B=b"],
+        &["create", "1", "128", "1000", "A=a", "B=b", "C=c"],
+        &["create", "5", "8", "32", "A=a", "B=b", "C=c", "D=d"],
+        &["create", "10", "8", "24", "A=a", "B=b", "C=c", "D=d"],
+        &["create", "0", "8", "32", "A=a", "B=b"],
+        &["create", "01", "8", "32", "A=a", "B=b"],
+        &["create", "1", "0", "32", "A=a", "B=b"],
+        &["create", "1", "65536", "32", "A=a", "B=b"],
+        &["create", "1", "8", "0", "A=a", "B=b"],
+        &["create", "1", "8", "1099511627777", "A=a", "B=b"],
+        &["create", "1", "8", "+32", "A=a", "B=b"],
+        &["create", "1", "8", "32", "5", "8", "32", "A=a", "B=b"],
+        &[
+            "create", "1", "8", "8", "1", "8", "8", "1", "8", "8", "A=a", "B=b",
+        ],
+        &["create", "1", "8", "8", "1", "8", "A=a", "B=b"],
+        &["create", "--family", "1", "8", "8", "A=a", "B=b"],
+        &[
+            "create", "--family", "0BADCAFE", "1", "8", "8", "A=a", "B=b",
+        ],
+        &["create", "--family", "badcafe", "1", "8", "8", "A=a", "B=b"],
+        &[
+            "create", "--family", "+badcafe", "1", "8", "8", "A=a", "B=b",
+        ],
+        &[
+            "create", "1", "8", "8", "--family", "0badcafe", "A=a", "B=b",
+        ],
+        &["create", "1", "8", "8", "A=a", "A=b"],
     ];
     for words in rows {
         assert!(rt; asked(rt.alloc(), words)? == Err(WordsFault::Words));

@@ -1,9 +1,13 @@
 //! What a command does, by its first words.
-ghost use Rattle.std.specs.Prelude.{◌≡◌, ◌^◌, ◌≤◌, nat_lt, ℕ, List, ◌∷◌, ◌++◌, map, slice_index, IfSome, IfNone};
+ghost use Rattle.std.specs.Prelude.{◌≡◌, ℕ, List, ◌++◌, ◌∷◌, map, IfSome, IfNone};
 ghost use Rattle.std.specs.List.{AllByRecursion};
 ghost use Rattle.std.specs.Option.{IsSomeAnd};
 ghost use Rattle.image_words.specs.Words.{HasJournal, ImageWord, IsImageWord, IsLimit, spelled, texts};
 ghost use Rattle.image_words.specs.Args.{Asks, Begins, fits};
+
+use crate::numbers::number_of;
+use crate::volumes::{NewContainer, split_container};
+use crate::words::behind;
 
 /// The fewest entries that a journal is limited to. The number is this project's own.
 const MIN_LIMIT: u32 = 4;
@@ -12,12 +16,13 @@ const MIN_LIMIT: u32 = 4;
 const MAX_LIMIT: u32 = 1_048_576;
 
 /// What a command does with its images: it assembles them, runs a script over them with a journal of at most so many
-/// entries, or examines the one that it names.
+/// entries, examines the one that it names, or makes a container over them.
 #[derive(Clone, Copy, Debug, PartialEq, Eq)]
 pub enum Verb {
     Assemble,
     Replay { limit: u32 },
     Examine,
+    Create(NewContainer),
 }
 
 impl Verb {
@@ -28,15 +33,9 @@ impl Verb {
         match self {
             Verb::Assemble | Verb::Replay { .. } => true,
             Verb::Examine => images == 1,
+            Verb::Create(made) => made.fits(images),
         }
     }
-}
-
-/// Whether a word begins with a byte above `0`, as digits do that have no sign and no zero in front.
-fn begins_above_zero(word: &str) -> bool
-    ensures { result ≡ nat_lt 0x30 (slice_index word.now 0) }
-{
-    !word.is_empty() && word.as_bytes()[0] > b'0'
 }
 
 /// The limit that a word gives, if it is in the range of limits.
@@ -44,22 +43,9 @@ fn limit_of(word: &str) -> Option<u32>
     ensures some { IfSome result (λ limit. IsLimit limit word.now) }
     ensures none { IfNone result ((limit : ℕ) → IsLimit limit word.now → ⊥) }
 {
-    let limit = word.parse::<u32>().ok()?;
-    if begins_above_zero(word) && MIN_LIMIT <= limit && limit <= MAX_LIMIT {
+    let limit = u32::try_from(number_of(word)?).ok()?;
+    if MIN_LIMIT <= limit && limit <= MAX_LIMIT {
         Some(limit)
-    } else {
-        None
-    }
-}
-
-/// The words behind a first word, if that is this one.
-fn behind<'a>(first: &str, words: &'a [String]) -> Option<&'a [String]>
-    ensures some { IfSome result (λ rest. texts words.now ≡ first.now ∷ texts rest.now) }
-    ensures none { IfNone result ((rest : List (List ℕ)) → texts words.now ≡ first.now ∷ rest → ⊥) }
-{
-    let (word, rest) = words.split_first()?;
-    if word.as_str() == first {
-        Some(rest)
     } else {
         None
     }
@@ -99,6 +85,10 @@ pub fn split_verb(words: &[String]) -> Option<(Verb, &[String])>
     }
     if let Some(named) = behind("examine", words) {
         return Some((Verb::Examine, named));
+    }
+    if let Some(given) = behind("create", words) {
+        let (made, named) = split_container(given)?;
+        return Some((Verb::Create(made), named));
     }
     let given = behind("replay", words)?;
     let (limit, named) = split_journal(given)?;

@@ -149,3 +149,16 @@ pub fn are_apart(images: &[ImageArg<'_>]) -> bool
     }
     true
 }
+
+/// The words behind a first word, if that is this one.
+pub fn behind<'a>(first: &str, words: &'a [String]) -> Option<&'a [String]>
+    ensures some { IfSome result (λ rest. texts words.now ≡ first.now ∷ texts rest.now) }
+    ensures none { IfNone result ((rest : List (List ℕ)) → texts words.now ≡ first.now ∷ rest → ⊥) }
+{
+    let (word, rest) = words.split_first()?;
+    if word.as_str() == first {
+        Some(rest)
+    } else {
+        None
+    }
+}

@@ -1,7 +1,7 @@
 use Rattle.std.proofs.Common.{◌∙◌, ap, sym}
 use Rattle.image_words.specs.Words.{texts}
-use Rattle.image_words.specs.declared.verbs.Verb.TheVariants.{Replay}
-use Rattle.image_words.proofs.Asked.{replay_asked}
+use Rattle.image_words.specs.declared.verbs.Verb.TheVariants.{Create, Replay}
+use Rattle.image_words.proofs.Asked.{create_asked, replay_asked}
 use Rattle.image_words.proofs.verbs.split_verb.Goals as goal
 
 pub returns-in_err-limit-clause-only : goal.returns-in_err-limit-clause-only
@@ -14,3 +14,14 @@ returns-clause-only c = λ verb images asks.
     let asked = replay_asked (texts c.args.words.now) (texts c.in_ok-given.given.now) verb images c.in_ok-given.ensures.some asks in
     let found = c.in_ok-limit.ensures.only asked.0 asked.1 images asked.3 asked.4.each asked.5 in
     (ap Replay found.0 ∙ sym asked.2, found.1)
+
+pub returns-in_err-made-clause-only : goal.returns-in_err-made-clause-only
+returns-in_err-made-clause-only c = λ verb images asks.
+    let asked = create_asked (texts c.args.words.now) (texts c.in-Some-behind-2.given.now) verb images c.in-Some-behind-2.ensures.some asks in
+    absurd (c.in_err-made.ensures.only asked.0 images asked.2 asked.3)
+
+pub returns-in-Some-behind-2-clause-only : goal.returns-in-Some-behind-2-clause-only
+returns-in-Some-behind-2-clause-only c = λ verb images asks.
+    let asked = create_asked (texts c.args.words.now) (texts c.in-Some-behind-2.given.now) verb images c.in-Some-behind-2.ensures.some asks in
+    let found = c.in_ok-made.ensures.only asked.0 images asked.2 asked.3 in
+    (ap Create found.0 ∙ sym asked.1, found.1)
