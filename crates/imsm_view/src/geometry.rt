@@ -43,7 +43,7 @@ fn striped_rows(strips: u64, size: u64, strip: u64) -> u64
 }
 
 /// The rows of a volume, one sector on each member.
-fn rows_of(level: Level, members: u8, size: u64, strip: u16) -> u64
+pub fn rows_of(level: Level, members: u8, size: u64, strip: u16) -> u64
     requires members { 2 ≤ members }
     requires strip { level ≡ One ⊎ strip ≢ 0 }
     requires size { size ≤ 2 ^ 40 }

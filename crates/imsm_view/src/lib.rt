@@ -15,6 +15,7 @@ mod view;
 mod volume;
 
 pub use fault::VolumeFault;
+pub use geometry::rows_of;
 pub use law::views_have_words;
 pub use view::volume_of;
 pub use volume::{SlotView, Volume};

@@ -1,0 +1,16 @@
+//! The metadata block of a new container: what can be made over disks, the block's bytes, and that its volumes start.
+#![tactic(auto)]
+
+mod block;
+mod bytes;
+mod container;
+mod disk;
+mod parts;
+#[cfg(test)]
+mod tests;
+mod volume;
+
+pub use block::new_block;
+pub use container::NewContainer;
+pub use disk::NewDisk;
+pub use volume::NewVolume;
