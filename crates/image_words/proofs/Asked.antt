@@ -6,9 +6,10 @@ use Rattle.std.proofs.lemmas.Bool.{false≢true}
 use Rattle.std.proofs.lemmas.Bool.Decides.{nat_tests}
 use Rattle.image_words.specs.declared.verbs.Verb.{Verb}
 use Rattle.image_words.specs.declared.verbs.Verb.TheVariants.{Assemble, Create, Examine, Replay}
-use Rattle.image_words.specs.Words.{AreImages, HasJournal, ImageWord, IsImageWord, IsLimit, Names, are_distinct, assemble_word, container_fits, create_word, examine_word, is_in_range, journal_word, replay_word, second_fits, spelled, volume_fits}
-use Rattle.image_words.specs.declared.volumes.NewContainer.{NewContainer}
-use Rattle.image_words.specs.declared.volumes.NewVolume.{NewVolume}
+use Rattle.image_words.specs.Words.{AreImages, HasJournal, ImageWord, IsImageWord, IsLimit, Names, are_distinct, assemble_word, create_word, examine_word, journal_word, replay_word, spelled}
+use Rattle.new_container.specs.Fits.{container_fits, is_in_range, second_fits, volume_fits}
+use Rattle.new_container.specs.declared.container.NewContainer.{NewContainer}
+use Rattle.new_container.specs.declared.volume.NewVolume.{NewVolume}
 use Rattle.image_words.specs.Args.{AreInRange, Asks, Begins, Makes, fits}
 
 and_left : (a b : Bool) → (a && b) ≡ true → a ≡ true

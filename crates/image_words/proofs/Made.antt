@@ -4,8 +4,9 @@ use Rattle.std.specs.List.{list_all}
 use Rattle.std.specs.Fmt.{decimal}
 use Rattle.imsm_base.specs.declared.units.Level.{Level}
 use Rattle.imsm_base.specs.declared.units.Level.TheVariants.{One, Five, Ten}
-use Rattle.image_words.specs.declared.volumes.NewVolume.{NewVolume}
-use Rattle.image_words.specs.Words.{ImageWord, is_in_range, level_word, second_words, spelled, volume_words}
+use Rattle.new_container.specs.declared.volume.NewVolume.{NewVolume}
+use Rattle.new_container.specs.Fits.{is_in_range}
+use Rattle.image_words.specs.Words.{ImageWord, level_word, second_words, spelled, volume_words}
 use Rattle.image_words.proofs.Asked.{is_other, no_image_word}
 
 pub same_volume : (level : Level) (strip size : ℕ) (v : NewVolume) → level ≡ v.level → strip ≡ v.strip → size ≡ v.size → (record { level = level; strip = strip; size = size }) ≡ v

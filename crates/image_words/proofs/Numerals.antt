@@ -11,8 +11,9 @@ use Rattle.std.proofs.lemmas.Bool.Decides.{nat_tests}
 use Rattle.std.proofs.lemmas.Fmt.{decimal-digits_value, first_decimal, parse-decimal}
 use Rattle.std.proofs.lemmas.Int.Digits.{digits_value-lt}
 use Rattle.std.proofs.lemmas.Str.Parse.{numerals_by_value, parse_plain, tells_digits}
-use Rattle.image_words.specs.declared.volumes.NewVolume.{NewVolume}
-use Rattle.image_words.specs.Words.{family_of, is_family, is_hex_digit, is_in_range}
+use Rattle.new_container.specs.declared.volume.NewVolume.{NewVolume}
+use Rattle.image_words.specs.Words.{family_of, is_family, is_hex_digit}
+use Rattle.new_container.specs.Fits.{is_in_range}
 use Rattle.image_words.proofs.Limits.{parsed_ok}
 
 pub both : (a b : Bool) → (a && b) ≡ true → (a ≡ true) × (b ≡ true)

@@ -3,8 +3,9 @@ use Rattle.std.specs.Prelude.{◌≡◌, ℕ, ◌==◌, Bool, true, List, ◌∷
 use Rattle.image_words.specs.declared.words.ImageArg.{ImageArg}
 use Rattle.image_words.specs.declared.verbs.Verb.{Verb}
 use Rattle.image_words.specs.declared.verbs.Verb.TheVariants.{Assemble, Create, Examine, Replay}
-use Rattle.image_words.specs.Words.{HasFamily, HasJournal, ImageWord, IsAssemble, IsCreate, IsExamine, IsReplay, assemble_word, container_fits, create_word, examine_word, is_in_range, replay_word, second_words, volume_words}
-use Rattle.image_words.specs.declared.volumes.NewContainer.{NewContainer}
+use Rattle.image_words.specs.Words.{HasFamily, HasJournal, ImageWord, IsAssemble, IsCreate, IsExamine, IsReplay, assemble_word, create_word, examine_word, replay_word, second_words, volume_words}
+use Rattle.new_container.specs.declared.container.NewContainer.{NewContainer}
+use Rattle.new_container.specs.Fits.{container_fits, is_in_range}
 
 -- an image word
 abbrev pub word_of : ImageArg → ImageWord

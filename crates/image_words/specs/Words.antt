@@ -1,18 +1,18 @@
 -- The words of a command. Source: this project's own.
-use Rattle.std.specs.Prelude.{◌≡◌, ℕ, ◌*◌, ◌-◌, ◌%◌, ◌^◌, ◌<◌, ◌≤◌, ◌==◌, ◌&&◌, ◌||◌, ◌⊎◌, nat_le, not, Bool, true, List, [], ◌∷◌, ◌++◌, length, map, codes, replicate, Option, Some, None, if◌then◌else◌, String, string_bytes}
+use Rattle.std.specs.Prelude.{◌≡◌, ℕ, ◌-◌, ◌^◌, ◌<◌, ◌≤◌, ◌==◌, ◌&&◌, ◌||◌, ◌⊎◌, nat_le, not, Bool, true, List, [], ◌∷◌, ◌++◌, length, map, codes, replicate, Option, Some, None, if◌then◌else◌, String, string_bytes}
 use Rattle.std.specs.Char.{is_ascii_digit}
 use Rattle.std.specs.Str.Parse.{digits_value}
 use Rattle.std.specs.Str.{bytes_eq}
 use Rattle.std.specs.Fmt.{decimal}
 use Rattle.std.specs.declared.alloc.Global.{Global}
 use Rattle.std.specs.List.{AllByRecursion, list_all}
-use Rattle.imsm_base.specs.Volumes.{data_members}
 use Rattle.imsm_base.specs.declared.units.Level.{Level}
 use Rattle.imsm_base.specs.declared.units.Level.TheVariants.{One, Five, Ten}
 use Rattle.imsm_base.specs.declared.units.Serial.{Serial}
 use Rattle.imsm_base.specs.declared.bounds.TheConstants.{MAX_DISKS, SERIAL_BYTES}
-use Rattle.image_words.specs.declared.volumes.NewContainer.{NewContainer}
-use Rattle.image_words.specs.declared.volumes.NewVolume.{NewVolume}
+use Rattle.new_container.specs.declared.container.NewContainer.{NewContainer}
+use Rattle.new_container.specs.declared.volume.NewVolume.{NewVolume}
+use Rattle.new_container.specs.Fits.{container_fits}
 
 -- a word NAME=FILE
 pub record ImageWord : Type 0 where
@@ -111,33 +111,6 @@ volume_words v = level_word v.level ∷ decimal v.strip ∷ decimal v.size ∷ [
 abbrev pub second_words : Option NewVolume → List (List ℕ)
 second_words None = []
 second_words (Some v) = volume_words v
-
--- a volume whose strip and size are in their ranges
-abbrev pub is_in_range : NewVolume → Bool
-is_in_range v = nat_le 1 v.strip && nat_le v.strip 65535 && nat_le 1 v.size && nat_le v.size (2 ^ 40)
-
--- the level takes so many images
-abbrev pub takes : Level → ℕ → Bool
-takes One count = count == 2
-takes Five count = nat_le 3 count && nat_le count 8
-takes Ten count = count == 4
-
--- a size of whole stripes, where a level over so many images has stripes
-abbrev pub is_striped : Level → ℕ → ℕ → ℕ → Bool
-is_striped One count strip size = true
-is_striped Five count strip size = size % (data_members Five count * strip) == 0
-is_striped Ten count strip size = size % (data_members Ten count * strip) == 0
-
--- a volume that is made over so many images, a second one, if there is one, and a container
-abbrev pub volume_fits : NewVolume → ℕ → Bool
-volume_fits v count = is_in_range v && (takes v.level count && is_striped v.level count v.strip v.size)
-
-abbrev pub second_fits : Option NewVolume → ℕ → Bool
-second_fits None count = true
-second_fits (Some v) count = volume_fits v count
-
-abbrev pub container_fits : NewContainer → ℕ → Bool
-container_fits made count = volume_fits made.first count && second_fits made.second count
 
 -- the command `assemble NAME=FILE..`
 pub record IsAssemble (words : List (List ℕ)) (images : List ImageWord) : Type 0 where

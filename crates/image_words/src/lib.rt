@@ -11,5 +11,4 @@ mod words;
 
 pub use commands::{Command, parse};
 pub use verbs::Verb;
-pub use volumes::{NewContainer, NewVolume};
 pub use words::{ImageArg, WordsFault, image_of};

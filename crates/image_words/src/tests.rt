@@ -1,6 +1,7 @@
 //! Words that are in the grammar, and words that aren't.
-use crate::{NewContainer, NewVolume, Verb, WordsFault, parse};
+use crate::{Verb, WordsFault, parse};
 use imsm_base::Level;
+use new_container::{NewContainer, NewVolume};
 use std::alloc::Global;
 use std::test::Fail;
 

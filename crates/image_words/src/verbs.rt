@@ -6,8 +6,9 @@ ghost use Rattle.image_words.specs.Words.{HasJournal, ImageWord, IsImageWord, Is
 ghost use Rattle.image_words.specs.Args.{Asks, Begins, fits};
 
 use crate::numbers::number_of;
-use crate::volumes::{NewContainer, split_container};
+use crate::volumes::split_container;
 use crate::words::behind;
+use new_container::NewContainer;
 
 /// The fewest entries that a journal is limited to. The number is this project's own.
 const MIN_LIMIT: u32 = 4;

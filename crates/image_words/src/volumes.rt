@@ -1,102 +1,18 @@
-//! The volumes that a command makes.
-ghost use Rattle.std.specs.Prelude.{◌≡◌, ◌==◌, ◌^◌, ◌<◌, ◌≤◌, ◌*◌, ◌%◌, ℕ, true, List, ◌∷◌, ◌++◌, Option, Some, map, IfSome};
+//! The words of the volumes that a command makes.
+ghost use Rattle.std.specs.Prelude.{◌≡◌, ◌^◌, ◌<◌, ◌≤◌, ℕ, true, List, ◌∷◌, ◌++◌, Option, Some, map, IfSome};
 ghost use Rattle.std.specs.Fmt.{decimal};
 ghost use Rattle.std.specs.Option.{IsSomeAnd};
 ghost use Rattle.imsm_base.specs.declared.units.Level.{Level};
-ghost use Rattle.image_words.specs.declared.volumes.NewContainer.{NewContainer};
-ghost use Rattle.image_words.specs.declared.volumes.NewVolume.{NewVolume};
-ghost use Rattle.image_words.specs.Words.{HasFamily, ImageWord, container_fits, family_of, is_in_range, is_striped, level_word, second_fits, second_words, spelled, takes, texts, volume_fits, volume_words};
+ghost use Rattle.new_container.specs.declared.container.NewContainer.{NewContainer};
+ghost use Rattle.new_container.specs.declared.volume.NewVolume.{NewVolume};
+ghost use Rattle.new_container.specs.Fits.{is_in_range};
+ghost use Rattle.image_words.specs.Words.{HasFamily, ImageWord, family_of, level_word, second_words, spelled, texts, volume_words};
 ghost use Rattle.image_words.specs.Args.{AreInRange, Makes};
 
 use crate::numbers::{family_of, number_of};
 use crate::words::behind;
 use imsm_base::Level;
-
-/// The most sectors of a volume. The number is this project's own.
-const MAX_SIZE: u64 = 1 << 40;
-
-/// A volume that is made: its level, and its strip and size in sectors.
-#[derive(Clone, Copy, Debug, PartialEq, Eq)]
-pub struct NewVolume {
-    pub level: Level,
-    pub strip: u16,
-    pub size: u64,
-}
-
-/// A container that is made: the number of its family, if one is given, and its one or two volumes.
-#[derive(Clone, Copy, Debug, PartialEq, Eq)]
-pub struct NewContainer {
-    pub family: Option<u32>,
-    pub first: NewVolume,
-    pub second: Option<NewVolume>,
-}
-
-/// Whether a level takes so many images.
-fn takes(level: Level, images: usize) -> bool
-    ensures { result ≡ takes level images }
-{
-    match level {
-        Level::One => images == 2,
-        Level::Five => 3 <= images && images <= 8,
-        Level::Ten => images == 4,
-    }
-}
-
-/// Whether a size is whole stripes of so many strips.
-fn is_striped_over(strips: u64, strip: u16, size: u64) -> bool
-    requires some { 1 ≤ strips }
-    requires few { strips < 256 }
-    requires strip { 1 ≤ strip }
-    ensures { result ≡ (size % (strips * strip) == 0) }
-{
-    size % (strips * u64::from(strip)) == 0
-}
-
-impl NewVolume {
-    fn is_in_range(self) -> bool
-        ensures { result ≡ is_in_range self }
-    {
-        1 <= self.strip && 1 <= self.size && self.size <= MAX_SIZE
-    }
-
-    /// Whether the volume is whole stripes, where its level has stripes.
-    fn is_striped(self, images: usize) -> bool
-        requires range { is_in_range self ≡ true }
-        requires taken { takes self.level images ≡ true }
-        ensures { result ≡ is_striped self.level images self.strip self.size }
-    {
-        match self.level {
-            Level::One => true,
-            Level::Five => is_striped_over(images as u64 - 1, self.strip, self.size),
-            Level::Ten => is_striped_over(2, self.strip, self.size),
-        }
-    }
-
-    /// Whether the volume can be made over so many images.
-    fn fits(self, images: usize) -> bool
-        ensures { result ≡ volume_fits self images }
-    {
-        self.is_in_range() && takes(self.level, images) && self.is_striped(images)
-    }
-}
-
-fn second_fits(second: Option<NewVolume>, images: usize) -> bool
-    ensures { result ≡ second_fits second images }
-{
-    match second {
-        None => true,
-        Some(volume) => volume.fits(images),
-    }
-}
-
-impl NewContainer {
-    /// Whether the volumes can be made over so many images.
-    pub fn fits(self, images: usize) -> bool
-        ensures { result ≡ container_fits self images }
-    {
-        self.first.fits(images) && second_fits(self.second, images)
-    }
-}
+use new_container::{NewContainer, NewVolume};
 
 /// The level that a word names.
 fn level_of(word: &str) -> Option<Level>

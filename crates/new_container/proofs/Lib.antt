@@ -1,2 +1,4 @@
 pub mod Pushed
 pub mod Whole
+pub mod Fresh
+pub mod Started

@@ -28,14 +28,14 @@ use Rattle.new_container.specs.declared.container.NewContainer.{NewContainer}
 use Rattle.new_container.specs.declared.disk.NewDisk.{NewDisk}
 use Rattle.new_container.specs.declared.volume.NewVolume.{NewVolume}
 use Rattle.new_container.specs.Fits.{container_fits, rows_over, takes, volume_fits, is_in_range}
-use Rattle.new_container.specs.Created.{CanCreate, HasSerial, block_with, created_block, created_bytes, created_family, created_size, created_volume, created_volumes, disk_part, entries_part, second_count, second_volume, volume_count}
+use Rattle.new_container.specs.Created.{CanCreate, IsDisk, block_with, created_block, created_bytes, created_family, created_size, created_volume, created_volumes, disk_part, entries_part, second_count, second_volume, volume_count}
 use Rattle.new_container.specs.Numbered.{numbered, with_family, with_sum}
 
 -- WHAT IS LAID
 
-disks_are : (disks : List NewDisk) → AllByRecursion HasSerial disks → AllByRecursion (HasLengths disk_lengths) (map disk_part disks)
+disks_are : (disks : List NewDisk) → AllByRecursion IsDisk disks → AllByRecursion (HasLengths disk_lengths) (map disk_part disks)
 disks_are [] all = tt
-disks_are (d ∷ ds) all = (ap (λ (n : ℕ). n ∷ 4 ∷ 4 ∷ 4 ∷ 4 ∷ 4 ∷ 12 ∷ []) all.0, disks_are ds all.1)
+disks_are (d ∷ ds) all = (ap (λ (n : ℕ). n ∷ 4 ∷ 4 ∷ 4 ∷ 4 ∷ 4 ∷ 12 ∷ []) all.0.serial, disks_are ds all.1)
 
 fours : (a n : ℕ) → map (λ (f : List ℕ). length f) (map (λ (k : ℕ). little_bytes 4 k) (range_with_len a n)) ≡ replicate n 4
 fours a zero = refl
@@ -57,7 +57,7 @@ length-second_volume : (pba : ℕ) (second : Option NewVolume) (count : ℕ) →
 length-second_volume pba None count = refl
 length-second_volume pba (Some volume) count = refl
 
-pub block_is : (sum family : ℕ) (made : NewContainer) (disks : List NewDisk) → AllByRecursion HasSerial disks → IsBlock (block_with sum family made disks)
+pub block_is : (sum family : ℕ) (made : NewContainer) (disks : List NewDisk) → AllByRecursion IsDisk disks → IsBlock (block_with sum family made disks)
 unfolding block_with
 block_is sum family made disks all = record {
   header = refl;
@@ -71,7 +71,7 @@ block_is sum family made disks all = record {
 -- HOW LONG IT IS
 
 -- a container fits few disks
-few_of : (level : Level) (count : ℕ) → takes level count ≡ true → (2 ≤ count) × (count ≤ 8)
+pub few_of : (level : Level) (count : ℕ) → takes level count ≡ true → (2 ≤ count) × (count ≤ 8)
 few_of One count e = let two : count ≡ 2 = eqb-true count 2 e in (omega arith, omega arith)
 few_of Five count e =
     let parts = and_parts (nat_le 3 count) (nat_le count 8) e in
@@ -90,7 +90,7 @@ second_room : (pba : ℕ) (second : Option NewVolume) (count : ℕ) → volumes_
 second_room pba None count = omega arith
 second_room pba (Some volume) count = omega arith
 
-pub length-block_with : (sum family : ℕ) (made : NewContainer) (disks : List NewDisk) → AllByRecursion HasSerial disks →
+pub length-block_with : (sum family : ℕ) (made : NewContainer) (disks : List NewDisk) → AllByRecursion IsDisk disks →
     length (bytes_of (block_with sum family made disks)) ≡ created_size (length disks) (volume_count made)
 unfolding block_with
 length-block_with sum family made disks all =
@@ -109,24 +109,24 @@ family_is_free f = record { below = omega arith; len = refl; inside = omega arit
 orig_is_free : (f : ℕ) → IsFree 11 (little_bytes 4 f)
 orig_is_free f = record { below = omega arith; len = refl; inside = omega arith; disks = λ e. omega arith; volumes = λ e. omega arith; tail = λ e. omega arith }
 
-spelled : (sum family : ℕ) (made : NewContainer) (disks : List NewDisk) → AllByRecursion HasSerial disks → Spells (bytes_of (block_with sum family made disks)) (block_with sum family made disks)
+spelled : (sum family : ℕ) (made : NewContainer) (disks : List NewDisk) → AllByRecursion IsDisk disks → Spells (bytes_of (block_with sum family made disks)) (block_with sum family made disks)
 spelled sum family made disks all = record { parts = block_is sum family made disks all; laid = refl }
 
-family_put : (family : ℕ) (made : NewContainer) (disks : List NewDisk) → AllByRecursion HasSerial disks →
+family_put : (family : ℕ) (made : NewContainer) (disks : List NewDisk) → AllByRecursion IsDisk disks →
     with_family family (bytes_of (block_with 0 0 made disks)) ≡ bytes_of (block_with 0 family made disks)
 unfolding block_with
 family_put family made disks all =
     let first = header-spells (bytes_of (block_with 0 0 made disks)) (block_with 0 0 made disks) 4 (little_bytes 4 family) (spelled 0 0 made disks all) (family_is_free family) in
     (header-spells _ _ 11 (little_bytes 4 family) first (orig_is_free family)).laid
 
-sum_put : (sum family : ℕ) (made : NewContainer) (disks : List NewDisk) → AllByRecursion HasSerial disks →
+sum_put : (sum family : ℕ) (made : NewContainer) (disks : List NewDisk) → AllByRecursion IsDisk disks →
     with_number_at 4 0x20 sum (bytes_of (block_with 0 family made disks)) ≡ bytes_of (block_with sum family made disks)
 unfolding block_with
 sum_put sum family made disks all =
     (header-spells (bytes_of (block_with 0 family made disks)) (block_with 0 family made disks) 2 (little_bytes 4 sum) (spelled 0 family made disks all) (checksum_is_free sum)).laid
 
 -- the bytes that are numbered last are those of the created block
-pub numbered_is : (made : NewContainer) (disks : List NewDisk) → AllByRecursion HasSerial disks → numbered made.family (bytes_of (block_with 0 0 made disks)) ≡ created_bytes made disks
+pub numbered_is : (made : NewContainer) (disks : List NewDisk) → AllByRecursion IsDisk disks → numbered made.family (bytes_of (block_with 0 0 made disks)) ≡ created_bytes made disks
 unfolding created_family created_block created_bytes
 numbered_is made disks all =
     let family : ℕ = unwrap_or made.family (block_sum (bytes_of (block_with 0 0 made disks))) in
@@ -138,7 +138,7 @@ all_expected : (disks : List NewDisk) → map serial_of (filter is_expected (map
 all_expected [] = refl
 all_expected (d ∷ ds) = ap (λ (xs : List (List ℕ)). d.serial.0 ∷ xs) (all_expected ds)
 
-summed_is : (family : ℕ) (made : NewContainer) (disks : List NewDisk) → AllByRecursion HasSerial disks →
+summed_is : (family : ℕ) (made : NewContainer) (disks : List NewDisk) → AllByRecursion IsDisk disks →
     let sum = block_sum (bytes_of (block_with 0 family made disks)) in block_sum (bytes_of (block_with sum family made disks)) ≡ sum
 summed_is family made disks all =
     let sum : ℕ = block_sum (bytes_of (block_with 0 family made disks)) in
@@ -146,7 +146,7 @@ summed_is family made disks all =
     ∙ block_sum-spliced (little_bytes 4 sum) (bytes_of (block_with 0 family made disks)) refl
     (omega (arith, length-block_with 0 family made disks all))
 
-whole_with : (family : ℕ) (made : NewContainer) (disks : List NewDisk) → container_fits made (length disks) ≡ true → AreApart (map (λ (d : NewDisk). d.serial.0) disks) → AllByRecursion HasSerial disks →
+whole_with : (family : ℕ) (made : NewContainer) (disks : List NewDisk) → container_fits made (length disks) ≡ true → AreApart (map (λ (d : NewDisk). d.serial.0) disks) → AllByRecursion IsDisk disks →
     let sum = block_sum (bytes_of (block_with 0 family made disks)) in
     IsWholeBlock (bytes_of (block_with sum family made disks)) (block_with sum family made disks)
 unfolding block_with
@@ -172,7 +172,7 @@ whole_with family made disks fits apart all =
     few_volumes None = omega arith
     few_volumes (Some volume) = omega arith
 
-pub created_whole : (made : NewContainer) (disks : List NewDisk) → CanCreate made disks → AllByRecursion HasSerial disks → IsWholeBlock (created_bytes made disks) (created_block made disks)
+pub created_whole : (made : NewContainer) (disks : List NewDisk) → CanCreate made disks → AllByRecursion IsDisk disks → IsWholeBlock (created_bytes made disks) (created_block made disks)
 unfolding created_block created_bytes
 created_whole made disks can all = whole_with (created_family made disks) made disks can.fits can.apart all
 
@@ -186,27 +186,27 @@ given_is bytes b w = let size = whole_given bytes (whole_apart bytes b w) in tak
 
 -- THE CODE'S STEPS
 
-pub unnumbered_long : (bytes : List ℕ) (made : NewContainer) (disks : List NewDisk) → All HasSerial disks → bytes ≡ bytes_of (block_with 0 0 made disks) → 216 ≤ length bytes
+pub unnumbered_long : (bytes : List ℕ) (made : NewContainer) (disks : List NewDisk) → All IsDisk disks → bytes ≡ bytes_of (block_with 0 0 made disks) → 216 ≤ length bytes
 unnumbered_long bytes made disks all is =
     let len : length bytes ≡ created_size (length disks) (volume_count made) =
-    ap (λ (x : List ℕ). length x) is ∙ length-block_with 0 0 made disks (recursion_from_All HasSerial disks all) in
+    ap (λ (x : List ℕ). length x) is ∙ length-block_with 0 0 made disks (recursion_from_All IsDisk disks all) in
     omega arith
 
 -- what is numbered through a slice of the Vec
-pub created_is : (v : Vec ℕ) (now new : List ℕ) (made : NewContainer) (disks : List NewDisk) → All HasSerial disks → v.items ≡ bytes_of (block_with 0 0 made disks) → now ≡ v.items →
+pub created_is : (v : Vec ℕ) (now new : List ℕ) (made : NewContainer) (disks : List NewDisk) → All IsDisk disks → v.items ≡ bytes_of (block_with 0 0 made disks) → now ≡ v.items →
     new ≡ numbered made.family now → (with_items v new).items ≡ created_bytes made disks
 unfolding created_bytes created_block
 created_is v now new made disks all is same numbers =
-    let each = recursion_from_All HasSerial disks all in
+    let each = recursion_from_All IsDisk disks all in
     let family : ℕ = created_family made disks in
     let len = length-block_with 0 0 made disks each in
     let len2 = length-block_with (block_sum (bytes_of (block_with 0 family made disks))) family made disks each in
     written v new (created_bytes made disks) (numbers ∙ ap (numbered made.family) (same ∙ is) ∙ numbered_is made disks each)
     (len2 ∙ sym len ∙ ap (λ (x : List ℕ). length x) (sym is))
 
-pub created_whole-bytes : (bytes : List ℕ) (made : NewContainer) (disks : List NewDisk) → CanCreate made disks → All HasSerial disks → bytes ≡ created_bytes made disks → IsWholeBlock bytes (created_block made disks)
+pub created_whole-bytes : (bytes : List ℕ) (made : NewContainer) (disks : List NewDisk) → CanCreate made disks → All IsDisk disks → bytes ≡ created_bytes made disks → IsWholeBlock bytes (created_block made disks)
 created_whole-bytes bytes made disks can all is =
-    subst (λ (x : List ℕ). IsWholeBlock x (created_block made disks)) (sym is) (created_whole made disks can (recursion_from_All HasSerial disks all))
+    subst (λ (x : List ℕ). IsWholeBlock x (created_block made disks)) (sym is) (created_whole made disks can (recursion_from_All IsDisk disks all))
 
 pub whole_is : (bytes now : List ℕ) (b : Block) → IsWholeBlock bytes b → now ≡ bytes → IsWhole (given_block now)
 whole_is bytes now b w same =

@@ -1,8 +1,8 @@
 -- The metadata block that is made for a container over disks, field by field as `Layout` of imsm_base names them.
 -- Source: init_super_imsm and init_super_imsm_volume of super-intel.c; where a volume lies, its name and the number of
 -- the family are this project's own choice.
-use Rattle.std.specs.Prelude.{◌≡◌, ℕ, ◌+◌, ◌*◌, ◌/◌, ◌%◌, ◌^◌, ◌≤◌, true, List, [], ◌∷◌, ◌++◌, length, map, codes, replicate, Option, Some, None, unwrap_or}
-use Rattle.std.specs.List.{range_with_len, AllByRecursion}
+use Rattle.std.specs.Prelude.{◌≡◌, ℕ, ◌+◌, ◌*◌, ◌/◌, ◌%◌, ◌^◌, ◌<◌, ◌≤◌, true, List, [], ◌∷◌, ◌++◌, length, map, codes, replicate, All, Option, Some, None, unwrap_or}
+use Rattle.std.specs.List.{range_with_len}
 use Rattle.byteorder.specs.Endian.{little_bytes}
 use Rattle.imsm_base.specs.declared.units.Level.{Level}
 use Rattle.imsm_base.specs.declared.units.Level.TheVariants.{One, Five, Ten}
@@ -30,9 +30,10 @@ header_part sum size family disks volumes =
     ∷ replicate 4 0 ∷ replicate 4 0 ∷ (disks ∷ []) ∷ (volumes ∷ []) ∷ replicate 6 0
     ∷ little_bytes 4 family ∷ replicate 4 0 ∷ replicate 4 0 ∷ replicate 140 0 ∷ []
 
--- a disk's serial has its length
-abbrev pub HasSerial : NewDisk → Type 0
-HasSerial disk = length disk.serial.0 ≡ 16
+-- the values that a disk's type has: a serial of 16 bytes, and a number of 64 bits
+pub record IsDisk (disk : NewDisk) : Type 0 where
+  pub serial : length disk.serial.0 ≡ 16
+  pub sectors : disk.sectors < 2 ^ 64
 
 -- a disk's record: of status 2, configured (CONFIGURED_DISK)
 abbrev pub disk_part : NewDisk → Part
@@ -128,4 +129,4 @@ created_bytes made disks = bytes_of (created_block made disks)
 pub record CanCreate (made : NewContainer) (disks : List NewDisk) : Type 0 where
   pub fits : container_fits made (length disks) ≡ true
   pub apart : AreApart (map (λ (d : NewDisk). d.serial.0) disks)
-  pub room : AllByRecursion (λ (d : NewDisk). total_rows made (length disks) + METADATA_SECTORS ≤ d.sectors) disks
+  pub room : All (λ (d : NewDisk). total_rows made (length disks) + METADATA_SECTORS ≤ d.sectors) disks

@@ -1,3 +1,4 @@
 pub mod Fits
 pub mod Created
 pub mod Numbered
+pub mod Fresh

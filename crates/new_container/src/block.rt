@@ -4,7 +4,7 @@ ghost use Rattle.imsm_base.specs.declared.bounds.TheConstants.{HEADER_BYTES};
 ghost use Rattle.imsm_base.specs.Layout.{bytes_of};
 ghost use Rattle.imsm_base.specs.Whole.{IsWholeBlock};
 ghost use Rattle.new_container.specs.Fits.{container_fits};
-ghost use Rattle.new_container.specs.Created.{CanCreate, HasSerial, block_with, created_block, created_bytes, created_size};
+ghost use Rattle.new_container.specs.Created.{CanCreate, IsDisk, block_with, created_block, created_bytes, created_size};
 ghost use Rattle.new_container.specs.Numbered.{numbered, with_family, with_sum};
 
 use crate::container::NewContainer;
@@ -27,7 +27,7 @@ fn created_size(disks: u8, volumes: u8) -> u32
 fn unnumbered(alloc: Global, made: &NewContainer, disks: &[NewDisk]) -> Result<Vec<u8>, CodecFault>
     requires { container_fits made.now (length disks.now) ≡ true }
     ensures bytes { IfOk result (λ bytes. bytes.items ≡ bytes_of (block_with 0 0 made.now disks.now)) }
-    ensures serials { IfOk result (λ _. All HasSerial disks.now) }
+    ensures disks { IfOk result (λ _. All IsDisk disks.now) }
 {
     let count = disks.len() as u8;
     let volumes = made.volume_count();
@@ -71,6 +71,7 @@ fn created(alloc: Global, made: &NewContainer, disks: &[NewDisk]) -> Result<Vec<
     requires { CanCreate made.now disks.now }
     ensures bytes { IfOk result (λ bytes. bytes.items ≡ created_bytes made.now disks.now) }
     ensures whole { IfOk result (λ bytes. IsWholeBlock bytes.items (created_block made.now disks.now)) }
+    ensures disks { IfOk result (λ _. All IsDisk disks.now) }
 {
     let mut bytes = unnumbered(alloc, made, disks)?;
     number(&mut bytes, made.family);
@@ -83,6 +84,8 @@ pub fn new_block(alloc: Global, made: &NewContainer, disks: &[NewDisk]) -> Resul
     ensures bytes { IfOk result (λ buffer. buffer.bytes ≡ created_bytes made.now disks.now) }
     ensures room { IfOk result (λ buffer. buffer.room ≡ length buffer.bytes) }
     ensures whole { IfOk result (λ buffer. IsWholeBlock buffer.bytes (created_block made.now disks.now)) }
+    // What the laws on created blocks take of disks.
+    ensures disks { IfOk result (λ _. All IsDisk disks.now) }
 {
     let bytes = created(alloc, made, disks)?;
     let mpb = check(&bytes).unwrap();

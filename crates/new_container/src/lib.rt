@@ -5,6 +5,7 @@ mod block;
 mod bytes;
 mod container;
 mod disk;
+mod law;
 mod parts;
 #[cfg(test)]
 mod tests;
@@ -13,4 +14,5 @@ mod volume;
 pub use block::new_block;
 pub use container::NewContainer;
 pub use disk::NewDisk;
+pub use law::{created_blocks_are_whole, created_volumes_start};
 pub use volume::NewVolume;

@@ -8,7 +8,7 @@ ghost use Rattle.new_container.specs.declared.container.NewContainer.{NewContain
 ghost use Rattle.new_container.specs.declared.volume.NewVolume.{NewVolume};
 ghost use Rattle.new_container.specs.Fits.{container_fits, rows_over, second_fits, volume_fits};
 ghost use Rattle.byteorder.specs.Endian.{little_bytes};
-ghost use Rattle.new_container.specs.Created.{HasSerial, low_half, high_half, created_volume, created_volumes, device_part, disk_part, domain_count, entries_part, header_part, level_byte, map_part, second_volume};
+ghost use Rattle.new_container.specs.Created.{IsDisk, low_half, high_half, created_volume, created_volumes, device_part, disk_part, domain_count, entries_part, header_part, level_byte, map_part, second_volume};
 
 use crate::bytes::{push, push_high_half, push_low_half, push_u16, push_u32};
 use crate::container::NewContainer;
@@ -32,7 +32,7 @@ pub(crate) fn push_header(bytes: &mut Vec<u8>, size: u32, disks: u8, volumes: u8
 /// Pushes the record of a disk.
 fn push_disk(bytes: &mut Vec<u8>, disk: &NewDisk) -> Result<(), CodecFault>
     ensures bytes { OnOk result (bytes.new.items ≡ bytes.old.items ++ concat (disk_part disk.now)) }
-    ensures serial { OnOk result (HasSerial disk.now) }
+    ensures disk { OnOk result (IsDisk disk.now) }
 {
     push(bytes, &disk.serial.0)?;
     push_low_half(bytes, disk.sectors)?;
@@ -45,7 +45,7 @@ fn push_disk(bytes: &mut Vec<u8>, disk: &NewDisk) -> Result<(), CodecFault>
 /// Pushes the records of disks.
 pub(crate) fn push_disks(bytes: &mut Vec<u8>, disks: &[NewDisk]) -> Result<(), CodecFault>
     ensures bytes { OnOk result (bytes.new.items ≡ bytes.old.items ++ flat_map concat (map disk_part disks.now)) }
-    ensures serials { OnOk result (All HasSerial disks.now) }
+    ensures disks { OnOk result (All IsDisk disks.now) }
 {
     for disk in disks {
         push_disk(bytes, disk)?;

@@ -1,10 +1,11 @@
 use Rattle.std.proofs.Common.{◌≡◌, List, ℕ, length, sym, ◌∙◌, ap, subst}
+use Rattle.std.specs.Prelude.{All}
 use Rattle.std.proofs.lemmas.Result.{IfOk-weaker}
 use Rattle.imsm_base.specs.Layout.{Block}
 use Rattle.imsm_base.specs.Whole.{IsWholeBlock}
 use Rattle.imsm_buffer.specs.Buffer.{Buffer}
 use Rattle.imsm_codec.specs.Mpb.{block_bytes}
-use Rattle.new_container.specs.Created.{created_block, created_bytes}
+use Rattle.new_container.specs.Created.{IsDisk, created_block, created_bytes}
 use Rattle.new_container.proofs.Whole.{checked_is, whole_is}
 use Rattle.new_container.proofs.block.new_block.Goals as goal
 
@@ -26,4 +27,5 @@ returns c =
       room = IfOk-weaker c.from_ref.result _ (λ (x : Buffer). x.room ≡ length x.bytes) (λ x e. subst (λ (y : Buffer). y.room ≡ length y.bytes) (sym e) len) copied;
       whole = IfOk-weaker c.from_ref.result _ (λ (x : Buffer). IsWholeBlock x.bytes b)
           (λ x e. subst (λ (y : Buffer). IsWholeBlock y.bytes b) (sym e) (subst (λ (y : List ℕ). IsWholeBlock y b) (sym same) c.in_ok-bytes.ensures.whole)) copied;
+      disks = IfOk-weaker c.from_ref.result _ (λ (x : Buffer). All IsDisk c.args.disks.now) (λ x e. c.in_ok-bytes.ensures.disks) copied;
     }
