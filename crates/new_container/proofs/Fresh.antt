@@ -1,12 +1,12 @@
 -- The volumes of a created block are those that were asked for, and start as they are.
-use Rattle.std.proofs.Common.{◌≡◌, ◌≢◌, ℕ, zero, suc, ◌+◌, ◌-◌, ◌*◌, ◌/◌, ◌%◌, ◌^◌, ◌<◌, ◌≤◌, ◌==◌, ◌&&◌, ◌||◌, not, Bool, true, false, cond, if◌then◌else◌, Option, Some, None, List, [], ◌∷◌, length, map, take, get_or, refl, sym, ◌∙◌, ap, subst, arith, add-one, min}
-use Rattle.std.specs.Prelude.{find, nat_le, nat_lt, is_none, slice_get, slice_index}
+use Rattle.std.proofs.Common.{◌≡◌, ℕ, zero, suc, ◌+◌, ◌-◌, ◌*◌, ◌/◌, ◌%◌, ◌^◌, ◌<◌, ◌≤◌, ◌==◌, ◌&&◌, ◌||◌, not, Bool, true, false, if◌then◌else◌, Option, Some, None, List, [], ◌∷◌, length, map, take, refl, sym, ◌∙◌, ap, subst, arith, add-one, min}
+use Rattle.std.specs.Prelude.{find, nat_le, is_none, slice_get, slice_index}
 use Rattle.std.specs.Option.{option_map, option_map_or}
 use Rattle.std.specs.List.{range_with_len, list_all, list_any, AllByRecursion}
 use Rattle.std.specs.Int.{bit_at}
-use Rattle.std.proofs.lemmas.Bool.{and_parts, eqb-true, eq-eqb, leb-true, le-leb, lt-ltb, le-ltb, ne_eqb}
+use Rattle.std.proofs.lemmas.Bool.{and_parts, eqb-true, leb-true, le-leb, lt-ltb, ne_eqb}
 use Rattle.std.proofs.Math.Nat.{mul-le-mul_right}
-use Rattle.std.proofs.lemmas.List.{length-map, get_or-map}
+use Rattle.std.proofs.lemmas.List.{get_or-map}
 use Rattle.std.proofs.lemmas.List.FromFn.{length-map-range_with_len, get_or-map-range_with_len}
 use Rattle.byteorder.specs.Endian.{little_bytes}
 use Rattle.byteorder.specs.Numbers.{little_number-reads_back}
@@ -14,17 +14,16 @@ use Rattle.imsm_base.specs.declared.units.Level.{Level}
 use Rattle.imsm_base.specs.declared.units.Level.TheVariants.{One, Five, Ten}
 use Rattle.imsm_base.specs.declared.bounds.TheConstants.{METADATA_SECTORS}
 use Rattle.imsm_base.specs.Fields.{Part, number}
-use Rattle.imsm_base.specs.Layout.{Block, Volume, Map, disk_count_of, total_blocks_of, volume_size_of, pba_of, blocks_per_member_of, strip_of, member_count_of, level_byte_of, policy_of, migration_type_of}
-use Rattle.imsm_base.specs.Volumes.{Fault, Member, first_map, member, members, order_at, is_in_sync, is_expected_at, volume_level, level_of, rows_of, volume_rows, has_policy, has_migration, rounded_up, is_bad_slot, bad_slot, has_sectors, is_like, is_level_one, has_geometry, do_meet, is_over, overlaps, geometry_fault, volume_fault}
-use Rattle.imsm_base.specs.Volumes.Fault.{BadLevel, BadPolicy, BadMigration, BadIndex, BadGeometry, Overlaps}
+use Rattle.imsm_base.specs.Layout.{Block, Volume, disk_count_of, total_blocks_of, volume_size_of, pba_of, blocks_per_member_of, strip_of, member_count_of, level_byte_of, policy_of, migration_type_of}
+use Rattle.imsm_base.specs.Volumes.{Fault, Member, first_map, member, members, order_at, is_in_sync, is_expected_at, volume_level, level_of, rows_of, volume_rows, has_policy, has_migration, rounded_up, is_bad_slot, bad_slot, has_sectors, is_level_one, has_geometry, overlaps, geometry_fault, volume_fault}
+use Rattle.imsm_base.specs.Volumes.Fault.{BadLevel, BadPolicy, BadMigration, BadGeometry, Overlaps}
 use Rattle.imsm_base.specs.Whole.{is_expected}
 use Rattle.imsm_base.proofs.Sealed.{number-four}
 use Rattle.imsm_view.proofs.Members.{find_none, any_more, index_here, alike_one}
-use Rattle.new_container.specs.declared.container.NewContainer.{NewContainer}
 use Rattle.new_container.specs.declared.disk.NewDisk.{NewDisk}
 use Rattle.new_container.specs.declared.volume.NewVolume.{NewVolume}
-use Rattle.new_container.specs.Fits.{container_fits, is_in_range, rows_over, second_rows, takes, total_rows, volume_fits}
-use Rattle.new_container.specs.Created.{CanCreate, IsDisk, created_volume, disk_part, entries_part, level_byte}
+use Rattle.new_container.specs.Fits.{is_in_range, rows_over, takes, volume_fits}
+use Rattle.new_container.specs.Created.{IsDisk, created_volume, disk_part, entries_part, level_byte}
 use Rattle.new_container.specs.Fresh.{IsAsked}
 use Rattle.imsm_view.proofs.Rows.{ceil_is, rows_bound, stripe_some}
 use Rattle.new_container.proofs.Whole.{few_of, level_taken}

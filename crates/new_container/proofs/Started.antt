@@ -1,26 +1,27 @@
 -- The created block has the volumes that were asked for, and its disks are whole by it.
-use Rattle.std.proofs.Common.{◌≡◌, ℕ, zero, suc, ◌+◌, ◌*◌, ◌^◌, ◌<◌, ◌≤◌, ◌==◌, ◌&&◌, not, Bool, true, false, cond, Option, Some, None, List, [], ◌∷◌, length, map, refl, sym, ◌∙◌, ap, subst, arith}
-use Rattle.std.specs.Prelude.{All, find, nat_lt, slice_get}
+use Rattle.std.proofs.Common.{◌≡◌, ℕ, zero, suc, ◌+◌, ◌^◌, ◌<◌, ◌≤◌, ◌==◌, ◌&&◌, not, Bool, true, false, cond, Option, Some, None, List, [], ◌∷◌, length, map, refl, sym, ◌∙◌, ap, subst, arith}
+use Rattle.std.specs.Prelude.{All, unwrap_or, find, nat_lt, slice_get}
 use Rattle.std.specs.Option.{IsSomeAnd, option_map_or}
-use Rattle.std.specs.List.{range_with_len, list_any, AllByRecursion}
+use Rattle.std.specs.List.{range_with_len, AllByRecursion}
 use Rattle.std.specs.Str.{bytes_eq}
 use Rattle.std.proofs.lemmas.Bool.{and_parts, le-ltb}
-use Rattle.std.proofs.lemmas.List.{length-map}
 use Rattle.std.proofs.lemmas.List.Elements.{recursion_from_All}
 use Rattle.std.proofs.lemmas.Slice.Eq.{bytes_eq-Decides}
 use Rattle.imsm_base.specs.declared.bounds.TheConstants.{METADATA_SECTORS}
-use Rattle.imsm_base.specs.Fields.{Part}
-use Rattle.imsm_base.specs.Layout.{Block, Volume, Map, serial_of, total_blocks_of, generation_of, disk_count_of, pba_of, blocks_per_member_of}
-use Rattle.imsm_base.specs.Volumes.{first_map, members, has_index, do_meet, is_over, overlaps}
-use Rattle.imsm_base.specs.Whole.{IsWholeDisk, AreApart, is_expected, own_record, first_of}
+use Rattle.byteorder.specs.Endian.{little_bytes}
+use Rattle.imsm_base.proofs.Sealed.{number-four}
+use Rattle.imsm_base.specs.Fields.{Part, number}
+use Rattle.imsm_base.specs.Layout.{Block, Volume, Map, serial_of, total_blocks_of, family_of, orig_family_of, bytes_of, generation_of, disk_count_of, pba_of, blocks_per_member_of}
+use Rattle.imsm_base.specs.Volumes.{first_map, is_over}
+use Rattle.imsm_base.specs.Whole.{block_sum, IsWholeDisk, AreApart, is_expected, own_record, first_of}
 use Rattle.new_container.specs.declared.container.NewContainer.{NewContainer}
 use Rattle.new_container.specs.declared.disk.NewDisk.{NewDisk}
 use Rattle.new_container.specs.declared.volume.NewVolume.{NewVolume}
 use Rattle.new_container.specs.Fits.{container_fits, rows_over, second_fits, second_rows, total_rows, volume_fits}
-use Rattle.new_container.specs.Created.{CanCreate, IsDisk, block_with, created_block, created_bytes, created_volume, created_volumes, disk_part, second_volume, second_count}
-use Rattle.new_container.specs.Fresh.{HasVolumes, IsAsked, IsFresh}
+use Rattle.new_container.specs.Created.{CanCreate, IsDisk, block_with, created_block, created_bytes, created_family, created_volume, created_volumes, disk_part, second_volume, second_count}
+use Rattle.new_container.specs.Fresh.{HasVolumes, IsFresh}
 use Rattle.new_container.proofs.Whole.{created_whole, few_disks}
-use Rattle.new_container.proofs.Fresh.{IsRoom, all_in_sync, asked_is, halves, rooms, rows_small, sectors_is, supported_is}
+use Rattle.new_container.proofs.Fresh.{all_in_sync, asked_is, halves, rooms, rows_small, sectors_is, supported_is}
 
 -- THE VOLUMES LIE APART
 
@@ -127,11 +128,11 @@ volumes_with sum family made disks can typed =
       number = length-created_volumes made count made.second refl;
       first = (created_volume 0 0 made.first count, refl, asked_is 0 0 made.first count (omega arith) fits, fresh_first sum family made disks can typed);
       second = λ asked is. (
-          created_volume 1 r asked count,
-          ap (λ (s : Option NewVolume). slice_get (created_volume 0 0 made.first count ∷ second_volume r s count) 1) is,
-          asked_is 1 r asked count (omega arith) (second_fitting made count asked is can.fits),
-          fresh_second (block_with sum family made disks) made disks asked is can typed refl refl (omega arith),
-        );
+        created_volume 1 r asked count,
+        ap (λ (s : Option NewVolume). slice_get (created_volume 0 0 made.first count ∷ second_volume r s count) 1) is,
+        asked_is 1 r asked count (omega arith) (second_fitting made count asked is can.fits),
+        fresh_second (block_with sum family made disks) made disks asked is can typed refl refl (omega arith),
+      );
     }
 
 pub created_volumes_are : (made : NewContainer) (disks : List NewDisk) → CanCreate made disks → All IsDisk disks → HasVolumes (created_block made disks) made (length disks)
@@ -191,3 +192,11 @@ created_disk made disks can typed i d at =
 pub created_generation : (made : NewContainer) (disks : List NewDisk) → generation_of (created_block made disks) ≡ 1
 unfolding created_block block_with
 created_generation made disks = refl
+
+pub given_family : (made : NewContainer) (disks : List NewDisk) (family : ℕ) → made.family ≡ Some family → family < 2 ^ 32 →
+    (family_of (created_block made disks) ≡ family) × (orig_family_of (created_block made disks) ≡ family)
+unfolding created_block created_family block_with
+given_family made disks family is below =
+    let given : created_family made disks ≡ family = ap (λ (o : Option ℕ). unwrap_or o (block_sum (bytes_of (block_with 0 0 made disks)))) is in
+    let read : number (little_bytes 4 (created_family made disks)) ≡ family = ap (λ (n : ℕ). number (little_bytes 4 n)) given ∙ number-four family below in
+    (read, read)

@@ -1,5 +1,5 @@
 -- The created block is whole, and its bytes are those that are numbered last.
-use Rattle.std.proofs.Common.{◌≡◌, ◌≢◌, ℕ, zero, suc, ◌+◌, ◌*◌, ◌/◌, ◌%◌, ◌^◌, ◌<◌, ◌≤◌, ◌==◌, ◌&&◌, Bool, true, Option, Some, None, List, [], ◌∷◌, ◌++◌, length, map, take, replicate, refl, sym, ◌∙◌, ap, subst, inl, arith}
+use Rattle.std.proofs.Common.{◌≡◌, ℕ, zero, suc, ◌+◌, ◌*◌, ◌^◌, ◌<◌, ◌≤◌, true, Option, Some, None, List, [], ◌∷◌, length, map, replicate, refl, sym, ◌∙◌, ap, subst, inl, arith}
 use Rattle.std.specs.Prelude.{filter, unwrap_or, nat_le}
 use Rattle.std.specs.List.{range_with_len, AllByRecursion}
 use Rattle.std.specs.Global.{Vec}
@@ -13,9 +13,9 @@ use Rattle.byteorder.specs.Endian.{little_bytes}
 use Rattle.imsm_base.specs.declared.units.Level.{Level}
 use Rattle.imsm_base.specs.declared.units.Level.TheVariants.{One, Five, Ten}
 use Rattle.imsm_base.specs.Fields.{number, with_number_at}
-use Rattle.imsm_base.specs.Layout.{Block, Volume, HasLengths, IsVolume, IsBlock, Spells, disk_lengths, serial_of, bytes_of}
+use Rattle.imsm_base.specs.Layout.{Block, HasLengths, IsVolume, IsBlock, Spells, disk_lengths, serial_of, bytes_of}
 use Rattle.imsm_base.specs.Parts.{block_in, volumes_room}
-use Rattle.imsm_base.specs.Whole.{IsWholeBlock, IsWhole, IsSize, AreApart, is_expected, expected_serials, block_sum}
+use Rattle.imsm_base.specs.Whole.{IsWholeBlock, IsWhole, IsSize, AreApart, is_expected, block_sum}
 use Rattle.imsm_base.proofs.Joined.{length-bytes_of}
 use Rattle.imsm_base.proofs.Edited.{IsFree, checksum_is_free, header-spells}
 use Rattle.imsm_base.proofs.Sealed.{number-four, block_sum-spliced}
@@ -28,7 +28,7 @@ use Rattle.new_container.specs.declared.container.NewContainer.{NewContainer}
 use Rattle.new_container.specs.declared.disk.NewDisk.{NewDisk}
 use Rattle.new_container.specs.declared.volume.NewVolume.{NewVolume}
 use Rattle.new_container.specs.Fits.{container_fits, rows_over, takes, volume_fits, is_in_range}
-use Rattle.new_container.specs.Created.{CanCreate, IsDisk, block_with, created_block, created_bytes, created_family, created_size, created_volume, created_volumes, disk_part, entries_part, second_count, second_volume, volume_count}
+use Rattle.new_container.specs.Created.{CanCreate, IsDisk, block_with, created_block, created_bytes, created_family, created_size, created_volume, disk_part, second_count, second_volume, volume_count}
 use Rattle.new_container.specs.Numbered.{numbered, with_family, with_sum}
 
 -- WHAT IS LAID

@@ -8,7 +8,7 @@ use Rattle.imsm_base.specs.declared.units.Level.{Level}
 use Rattle.imsm_base.specs.declared.units.Level.TheVariants.{One, Five, Ten}
 use Rattle.imsm_base.specs.declared.bounds.TheConstants.{METADATA_SECTORS}
 use Rattle.imsm_base.specs.Fields.{Part}
-use Rattle.imsm_base.specs.Layout.{Block, Volume, Map, state_lengths, bytes_of}
+use Rattle.imsm_base.specs.Layout.{Block, Volume, state_lengths, bytes_of}
 use Rattle.imsm_base.specs.Whole.{the_signature, block_sum, AreApart}
 use Rattle.imsm_base.specs.EditsOfTables.{blank_part, the_version}
 use Rattle.new_container.specs.declared.container.NewContainer.{NewContainer}

@@ -2,3 +2,4 @@ pub mod Fits
 pub mod Created
 pub mod Numbered
 pub mod Fresh
+pub mod Example

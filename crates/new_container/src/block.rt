@@ -79,7 +79,11 @@ fn created(alloc: Global, made: &NewContainer, disks: &[NewDisk]) -> Result<Vec<
 }
 
 /// The metadata block of a new container over these disks, in a room of its own size. Memory is the only fault.
-pub fn new_block(alloc: Global, made: &NewContainer, disks: &[NewDisk]) -> Result<MpbBuf, CodecFault>
+pub fn new_block(
+    alloc: Global,
+    made: &NewContainer,
+    disks: &[NewDisk],
+) -> Result<MpbBuf, CodecFault>
     requires { CanCreate made.now disks.now }
     ensures bytes { IfOk result (λ buffer. buffer.bytes ≡ created_bytes made.now disks.now) }
     ensures room { IfOk result (λ buffer. buffer.room ≡ length buffer.bytes) }

@@ -14,5 +14,5 @@ mod volume;
 pub use block::new_block;
 pub use container::NewContainer;
 pub use disk::NewDisk;
-pub use law::{created_blocks_are_whole, created_volumes_start};
+pub use law::{created_blocks_are_whole, created_volumes_start, example_of_a_new_mirror};
 pub use volume::NewVolume;

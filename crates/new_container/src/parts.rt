@@ -18,7 +18,12 @@ use imsm_base::Level;
 use imsm_buffer::CodecFault;
 
 /// Pushes the header of a block of so many bytes, disks and volumes, without a checksum and a number of the family.
-pub(crate) fn push_header(bytes: &mut Vec<u8>, size: u32, disks: u8, volumes: u8) -> Result<(), CodecFault>
+pub(crate) fn push_header(
+    bytes: &mut Vec<u8>,
+    size: u32,
+    disks: u8,
+    volumes: u8,
+) -> Result<(), CodecFault>
     ensures { OnOk result (bytes.new.items ≡ bytes.old.items ++ concat (header_part 0 size 0 disks volumes)) }
 {
     push(bytes, b"Intel Raid ISM Cfg Sig. 1.3.00\0\0\0\0\0\0")?;
@@ -108,7 +113,13 @@ fn push_high_halves(bytes: &mut Vec<u8>, pba: u64, rows: u64, strip: u16) -> Res
 }
 
 /// Pushes the fields of a map: the volume lies from sector `pba` on.
-fn push_map(bytes: &mut Vec<u8>, volume: &NewVolume, pba: u64, rows: u64, disks: u8) -> Result<(), CodecFault>
+fn push_map(
+    bytes: &mut Vec<u8>,
+    volume: &NewVolume,
+    pba: u64,
+    rows: u64,
+    disks: u8,
+) -> Result<(), CodecFault>
     requires { 1 ≤ volume.now.strip }
     ensures { OnOk result (bytes.new.items ≡ bytes.old.items ++ concat (map_part volume.now pba rows disks)) }
 {
@@ -131,7 +142,13 @@ fn push_entries(bytes: &mut Vec<u8>, disks: u8) -> Result<(), CodecFault>
 }
 
 /// Pushes a volume of this number over so many disks, from sector `pba` on.
-fn push_volume(bytes: &mut Vec<u8>, number: u8, pba: u64, volume: &NewVolume, disks: u8) -> Result<(), CodecFault>
+fn push_volume(
+    bytes: &mut Vec<u8>,
+    number: u8,
+    pba: u64,
+    volume: &NewVolume,
+    disks: u8,
+) -> Result<(), CodecFault>
     requires number { number < 10 }
     requires fits { volume_fits volume.now disks ≡ true }
     ensures { OnOk result (bytes.new.items ≡ bytes.old.items ++ volume_bytes (created_volume number pba volume.now disks)) }
@@ -144,7 +161,12 @@ fn push_volume(bytes: &mut Vec<u8>, number: u8, pba: u64, volume: &NewVolume, di
 }
 
 /// Pushes the second volume, if there is one.
-fn push_second(bytes: &mut Vec<u8>, pba: u64, second: Option<NewVolume>, disks: u8) -> Result<(), CodecFault>
+fn push_second(
+    bytes: &mut Vec<u8>,
+    pba: u64,
+    second: Option<NewVolume>,
+    disks: u8,
+) -> Result<(), CodecFault>
     requires { second_fits second disks ≡ true }
     ensures { OnOk result (bytes.new.items ≡ bytes.old.items ++ flat_map volume_bytes (second_volume pba second disks)) }
 {
@@ -155,7 +177,11 @@ fn push_second(bytes: &mut Vec<u8>, pba: u64, second: Option<NewVolume>, disks: 
 }
 
 /// Pushes the volumes of a container over so many disks, the second one behind the first.
-pub(crate) fn push_volumes(bytes: &mut Vec<u8>, made: &NewContainer, disks: u8) -> Result<(), CodecFault>
+pub(crate) fn push_volumes(
+    bytes: &mut Vec<u8>,
+    made: &NewContainer,
+    disks: u8,
+) -> Result<(), CodecFault>
     requires { container_fits made.now disks ≡ true }
     ensures { OnOk result (bytes.new.items ≡ bytes.old.items ++ flat_map volume_bytes (created_volumes made.now disks)) }
 {

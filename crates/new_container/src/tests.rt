@@ -84,22 +84,45 @@ fn makes_stripes_of_two_copies(rt: HostRuntime) {
     }
 }
 
-/// The first volume is as large as one can be, so that the numbers of both have high halves.
+const PARITY: NewVolume = NewVolume {
+    level: Level::Five,
+    strip: 128,
+    size: 2048,
+};
+
 #[test]
 fn makes_rotating_parity(rt: HostRuntime) {
-    let small = NewVolume {
-        level: Level::Five,
-        strip: 128,
-        size: 2048,
-    };
-    let mut made = NewContainer {
+    let made = NewContainer {
         family: None,
-        first: small,
+        first: PARITY,
         second: None,
     };
     let disks = [disk(b'A', 4096), disk(b'B', 4096), disk(b'C', 4096)];
     match new_block(rt.alloc(), &made, &disks) {
         Ok(block) => assert_eq!(rt; told(&block), (532, 0x7125_83d6, 0x7125_83d6, 0x5370_8b82)),
+        Err(_) => assert!(rt; false),
+    }
+}
+
+/// The first volume is as large as one can be, so that numbers of both have high halves.
+#[test]
+fn makes_a_large_volume(rt: HostRuntime) {
+    let made = NewContainer {
+        family: None,
+        first: NewVolume {
+            level: Level::Five,
+            strip: 64,
+            size: 1 << 40,
+        },
+        second: Some(PARITY),
+    };
+    let disks = [
+        disk(b'A', 1 << 40),
+        disk(b'B', 1 << 40),
+        disk(b'C', 1 << 40),
+    ];
+    match new_block(rt.alloc(), &made, &disks) {
+        Ok(block) => assert_eq!(rt; told(&block), (704, 0xedc2_308d, 0xedc2_308d, 0xc946_91a7)),
         Err(_) => assert!(rt; false),
     }
 }
