@@ -4,7 +4,7 @@ use Rattle.imsm_base.specs.declared.units.Serial.{Serial}
 use Rattle.stage.specs.declared.ends.DriveEnd.{DriveEnd}
 use Rattle.stage.specs.declared.ends.DriveEnd.TheVariants.{Over, Full, Member}
 use Rattle.image_verdict.specs.Images.{blank_serial}
-use Rattle.image_verdict.specs.Text.{serial_text, line_feed}
+use Rattle.imsm_text.specs.Text.{serial_text, line_feed}
 
 -- an operation names a volume that the container doesn't have
 abbrev pub absent_volume_line : List ℕ

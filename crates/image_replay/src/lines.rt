@@ -4,13 +4,13 @@ ghost use Rattle.std.specs.List.{flat_map};
 ghost use Rattle.member_bank.specs.Faults.{Rose};
 ghost use Rattle.journal_text.specs.Lines.{journal_text};
 ghost use Rattle.image_outside.specs.Outside.{Adds};
-ghost use Rattle.image_verdict.specs.Text.{escaped, hex_byte, serial_text};
+ghost use Rattle.imsm_text.specs.Text.{escaped, hex_byte, serial_text};
 ghost use Rattle.image_replay.specs.Lines.{failed_member_line};
 
 use array_model::Entry;
 use image_outside::{Sink, write_all};
-use image_verdict::{digits_of, is_plain, name_bytes};
 use imsm_base::Serial;
+use imsm_text::{digits_of, is_plain, name_bytes};
 use journal_text::line_of;
 use member_bank::Failed;
 
@@ -58,7 +58,7 @@ fn write_serial<K: Sink>(sink: &mut K, serial: &Serial) -> Result<(), Failed>
     ensures later { K.faults_of sink.old ≤ K.faults_of sink.new }
     ensures err { OnErr result (Rose (K.faults_of sink.old) (K.faults_of sink.new)) }
 {
-    let bytes = name_bytes(serial);
+    let bytes = name_bytes(&serial.0);
     if bytes.is_empty() {
         write_escaped(sink, 0)
     } else {

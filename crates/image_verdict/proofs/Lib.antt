@@ -1,4 +1,3 @@
-pub mod Trimmed
 pub mod Pieces
 pub mod Reading
 pub mod Tables

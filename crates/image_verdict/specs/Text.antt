@@ -1,42 +1,11 @@
 -- The lines of a report. Source: this project's own.
-use Rattle.std.specs.Prelude.{ℕ, ◌==◌, ◌&&◌, nat_le, not, Bool, true, false, if◌then◌else◌, List, [], ◌∷◌, ◌++◌, codes}
-use Rattle.std.specs.Int.{to_be_bytes, w32}
-use Rattle.std.specs.List.{flat_map, list_all}
+use Rattle.std.specs.Prelude.{ℕ, Bool, true, false, List, ◌++◌, codes}
+use Rattle.std.specs.List.{flat_map}
 use Rattle.std.specs.Fmt.{decimal}
-use Rattle.hex.specs.Hex.{encode_lower}
 use Rattle.imsm_base.specs.declared.units.Serial.{Serial}
+use Rattle.imsm_text.specs.Text.{hex_number, line_feed, serial_text}
 use Rattle.image_verdict.specs.declared.report.Report.{Report}
 use Rattle.image_verdict.specs.declared.report.Report.TheVariants.{Unbuilt, Waiting, Started}
-
-abbrev pub line_feed : List ℕ
-line_feed = 0x0a ∷ []
-
--- a byte as two digits, and a number of four bytes as eight
-abbrev pub hex_byte : ℕ → List ℕ
-hex_byte b = encode_lower (b ∷ [])
-
-abbrev pub hex_number : ℕ → List ℕ
-hex_number n = encode_lower (to_be_bytes w32 n)
-
--- a byte as it is printed: as it is, or as `\x` and two digits
-abbrev pub is_printed : ℕ → Bool
-is_printed b = nat_le 0x21 b && nat_le b 0x7e && not (b == 0x5c)
-
-abbrev pub escaped : ℕ → List ℕ
-escaped b = if is_printed b then b ∷ [] else 0x5c ∷ 0x78 ∷ hex_byte b
-
--- bytes without the zeros at their end
-abbrev pub without_zeros : List ℕ → List ℕ
-without_zeros [] = []
-without_zeros (b ∷ bs) = if list_all (λ c. c == 0) (b ∷ bs) then [] else b ∷ without_zeros bs
-
--- a serial as it is printed; an empty one is one zero byte
-abbrev pub escaped_all : List ℕ → List ℕ
-escaped_all [] = escaped 0
-escaped_all (b ∷ bs) = flat_map escaped (b ∷ bs)
-
-abbrev pub serial_text : Serial → List ℕ
-serial_text s = escaped_all (without_zeros s.0)
 
 abbrev pub family_line : ℕ → ℕ → List ℕ
 family_line family generation =

@@ -10,5 +10,5 @@ mod verdict;
 pub use images::{ImageRead, read_images};
 pub use print::print_report;
 pub use report::Report;
-pub use text::{digits_of, is_plain, name_bytes, text_of};
+pub use text::text_of;
 pub use verdict::report_on;

@@ -1,99 +1,12 @@
 //! The lines of a report.
-ghost use Rattle.std.specs.Prelude.{◌≡◌, ◌++◌, ◌∷◌, [], ◌≤◌, length, IfOk, OnOk};
+ghost use Rattle.std.specs.Prelude.{◌≡◌, ◌++◌, IfOk, OnOk};
 ghost use Rattle.std.specs.List.{flat_map};
-ghost use Rattle.std.specs.Fmt.{decimal};
-ghost use Rattle.image_verdict.specs.Text.{hex_byte, hex_number, escaped, escaped_all, is_printed, without_zeros, serial_text, family_line, unbuilt_line, absent_line, member_line, started_text, waiting_text, report_text};
+ghost use Rattle.image_verdict.specs.Text.{family_line, unbuilt_line, absent_line, member_line, started_text, waiting_text, report_text};
 
 use crate::report::Report;
 use imsm_base::Serial;
-use itoa::Buffer;
+use imsm_text::{push_hex_number, push_name, push_number};
 use std::alloc::{AllocError, Global};
-
-/// Appends a number as eight hexadecimal digits.
-fn push_hex_number(out: &mut Vec<u8>, value: u32) -> Result<(), AllocError>
-    ensures { OnOk result (out.new.items ≡ out.old.items ++ hex_number value) }
-{
-    let mut digits = [0; 8];
-    hex::encode_to_slice(value.to_be_bytes(), &mut digits).unwrap();
-    out.extend_from_slice(&digits)
-}
-
-fn push_number(out: &mut Vec<u8>, value: u32) -> Result<(), AllocError>
-    ensures { OnOk result (out.new.items ≡ out.old.items ++ decimal value) }
-{
-    out.extend_from_slice(Buffer::new().format(value).as_bytes())
-}
-
-/// A byte as two hexadecimal digits.
-pub fn digits_of(byte: u8) -> [u8; 2]
-    ensures { result ≡ hex_byte byte }
-{
-    let mut digits = [0; 2];
-    hex::encode_to_slice([byte], &mut digits).unwrap();
-    digits
-}
-
-fn push_hex_byte(out: &mut Vec<u8>, byte: u8) -> Result<(), AllocError>
-    ensures { OnOk result (out.new.items ≡ out.old.items ++ hex_byte byte) }
-{
-    out.extend_from_slice(&digits_of(byte))
-}
-
-/// Whether a byte is printed as it is.
-pub fn is_plain(byte: u8) -> bool
-    ensures { result ≡ is_printed byte }
-{
-    byte >= 0x21 && byte <= 0x7e && byte != b'\\'
-}
-
-fn push_escaped(out: &mut Vec<u8>, byte: u8) -> Result<(), AllocError>
-    ensures { OnOk result (out.new.items ≡ out.old.items ++ escaped byte) }
-{
-    if is_plain(byte) {
-        out.push(byte)?;
-        return Ok(());
-    }
-    out.extend_from_slice(b"\\x")?;
-    push_hex_byte(out, byte)
-}
-
-/// Bytes without the zeros at their end.
-fn trimmed(bytes: &[u8]) -> &[u8]
-    ensures { result.now ≡ without_zeros bytes.now }
-{
-    let mut end = bytes.len();
-    while end > 0 && bytes[end - 1] == 0 {
-        end -= 1;
-    }
-    &bytes[..end]
-}
-
-/// The bytes of a serial that are printed: those before the zeros at its end.
-pub fn name_bytes(serial: &Serial) -> &[u8]
-    ensures { result.now ≡ without_zeros serial.now.0 }
-{
-    trimmed(&serial.0)
-}
-
-fn push_all_escaped(out: &mut Vec<u8>, bytes: &[u8]) -> Result<(), AllocError>
-    ensures { OnOk result (out.new.items ≡ out.old.items ++ flat_map escaped bytes.now) }
-{
-    for byte in bytes {
-        push_escaped(out, *byte)?;
-    }
-    Ok(())
-}
-
-fn push_serial(out: &mut Vec<u8>, serial: &Serial) -> Result<(), AllocError>
-    ensures { OnOk result (out.new.items ≡ out.old.items ++ serial_text serial.now) }
-{
-    let bytes = name_bytes(serial);
-    if bytes.is_empty() {
-        push_escaped(out, 0)
-    } else {
-        push_all_escaped(out, bytes)
-    }
-}
 
 fn push_family(out: &mut Vec<u8>, family: u32, generation: u32) -> Result<(), AllocError>
     ensures { OnOk result (out.new.items ≡ out.old.items ++ family_line family generation) }
@@ -101,7 +14,7 @@ fn push_family(out: &mut Vec<u8>, family: u32, generation: u32) -> Result<(), Al
     out.extend_from_slice(b"family ")?;
     push_hex_number(out, family)?;
     out.extend_from_slice(b" generation ")?;
-    push_number(out, generation)?;
+    push_number(out, u64::from(generation))?;
     out.extend_from_slice(b"\n")?;
     Ok(())
 }
@@ -110,7 +23,7 @@ fn push_unbuilt(out: &mut Vec<u8>, serial: &Serial) -> Result<(), AllocError>
     ensures { OnOk result (out.new.items ≡ out.old.items ++ unbuilt_line serial.now) }
 {
     out.extend_from_slice(b"unbuilt ")?;
-    push_serial(out, serial)?;
+    push_name(out, &serial.0)?;
     out.extend_from_slice(b"\n")?;
     Ok(())
 }
@@ -119,7 +32,7 @@ fn push_absent(out: &mut Vec<u8>, serial: &Serial) -> Result<(), AllocError>
     ensures { OnOk result (out.new.items ≡ out.old.items ++ absent_line serial.now) }
 {
     out.extend_from_slice(b"waiting ")?;
-    push_serial(out, serial)?;
+    push_name(out, &serial.0)?;
     out.extend_from_slice(b" absent\n")?;
     Ok(())
 }
@@ -128,7 +41,7 @@ fn push_member(out: &mut Vec<u8>, serial: &Serial) -> Result<(), AllocError>
     ensures { OnOk result (out.new.items ≡ out.old.items ++ member_line serial.now) }
 {
     out.extend_from_slice(b"disk ")?;
-    push_serial(out, serial)?;
+    push_name(out, &serial.0)?;
     out.extend_from_slice(b" member\n")?;
     Ok(())
 }

@@ -3,7 +3,7 @@ use Rattle.std.proofs.Common.{◌≡◌, ◌≢◌, ◌≤◌, ◌<◌, ◌&&◌
 use Rattle.std.specs.Prelude.{◌==◌}
 use Rattle.std.specs.List.{list_all}
 use Rattle.std.proofs.lemmas.Bool.{ne_eqb}
-use Rattle.image_verdict.specs.Text.{without_zeros}
+use Rattle.imsm_text.specs.Text.{without_zeros}
 
 and_false : (b : Bool) → (b && false) ≡ false
 and_false true = refl

@@ -1,7 +1,7 @@
 use Rattle.std.proofs.Common.{◌≡◌, ◌++◌, take}
 use Rattle.std.specs.List.{flat_map}
-use Rattle.image_verdict.specs.Text.{escaped}
-use Rattle.image_verdict.proofs.text.push_all_escaped.Given as goal
+use Rattle.imsm_text.specs.Text.{escaped}
+use Rattle.imsm_text.proofs.bytes.push_all_escaped.Given as goal
 
 abbrev pub invariant-loop-byte : goal.invariant-loop-byte
 invariant-loop-byte l = l.out.items ≡ l.initial.out.items ++ flat_map escaped (take l.byte-index l.bytes)

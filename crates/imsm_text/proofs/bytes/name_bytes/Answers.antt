@@ -1,6 +1,6 @@
-use Rattle.image_verdict.proofs.Trimmed.{take-without_zeros, last_of, none_last}
-use Rattle.image_verdict.proofs.text.trimmed.Goals as goal
-use Rattle.image_verdict.proofs.text.trimmed.Goals.{then-loop-end-test+else-bytes-end-eq0, else-loop-end-test}
+use Rattle.imsm_text.proofs.Trimmed.{take-without_zeros, last_of, none_last}
+use Rattle.imsm_text.proofs.bytes.name_bytes.Goals as goal
+use Rattle.imsm_text.proofs.bytes.name_bytes.Goals.{then-loop-end-test+else-bytes-end-eq0, else-loop-end-test}
 
 pub returns : goal.returns
 returns c =

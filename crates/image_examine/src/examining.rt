@@ -1,0 +1,56 @@
+//! What is found on a disk is printed.
+ghost use Rattle.std.specs.Prelude.{◌≡◌, ◌≤◌, ◌⊎◌, ℕ, [], length, IfSome};
+ghost use Rattle.member_bank.specs.Faults.{Rose};
+ghost use Rattle.member_bank.specs.Told.{Keeps};
+ghost use Rattle.image_outside.specs.Outside.{Adds, HasOnlyReads};
+ghost use Rattle.image_outside.specs.Endings.{EndsWithoutMemory};
+ghost use Rattle.image_examine.specs.Text.{found_status as status_of, found_text as text_of};
+ghost use Rattle.image_examine.specs.Endings.{Examines, IsExamined};
+
+use crate::text::{found_status, found_text};
+use image_outside::{Sink, Status, end, end_without_memory};
+use imsm_base::DiskNo;
+use imsm_buffer::MpbBuf;
+use member_bank::Bank;
+use mpb_store::{Found, found};
+use std::alloc::Global;
+
+/// Sectors of the largest block.
+const MAX_BLOCK_SECTORS: u8 = 16;
+
+/// Prints what was found, where the block is this one if one was. All memory is taken before a line is written.
+fn print_found<K: Sink>(alloc: Global, found: Found, block: &MpbBuf, sink: &mut K) -> Status
+    ensures status { (result.0 ≡ status_of found) ⊎ (result.0 ≡ 6) ⊎ (result.0 ≡ 9) }
+    ensures lines { IsExamined result.0 → Adds (K.written sink.old) (K.written sink.new) (text_of found block.now.bytes) }
+    ensures write_fault { result.0 ≡ 6 → Rose (K.faults_of sink.old) (K.faults_of sink.new) }
+    ensures memory { result.0 ≡ 9 → EndsWithoutMemory (K.written sink.old) (K.written sink.new) (K.faults_of sink.old) (K.faults_of sink.new) }
+{
+    match found_text(alloc, found, block) {
+        Ok(text) => end(sink, text.as_slice(), found_status(found)),
+        Err(_) => end_without_memory(sink),
+    }
+}
+
+/// Looks for the metadata block of the one disk of a bank, and prints what it says, or what is found in its place. All
+/// memory is taken before a line is written.
+pub fn examine<B: Bank, K: Sink>(alloc: Global, bank: &mut B, sink: &mut K) -> Status
+    requires fresh { IfSome (B.log bank.old) (λ l. l ≡ []) }
+    requires one { length (B.serials bank.old) ≡ 1 }
+    ensures reads { HasOnlyReads B.log bank.new }
+    ensures status { IsExamined result.0 ⊎ (result.0 ≡ 6) ⊎ (result.0 ≡ 9) }
+    ensures write_fault { result.0 ≡ 6 → Rose (K.faults_of sink.old) (K.faults_of sink.new) }
+    ensures memory { result.0 ≡ 9 → EndsWithoutMemory (K.written sink.old) (K.written sink.new) (K.faults_of sink.old) (K.faults_of sink.new) }
+    ensures examined { IsExamined result.0 → Examines B.serials B.sizes B.opening B.log B.faults_of (K.written sink.old) (K.written sink.new) result.0 bank.old bank.new }
+    ensures opening { Keeps (B.opening bank.old) (B.opening bank.new) }
+    ensures later { (k : ℕ) → B.faults_of bank.old k ≤ B.faults_of bank.new k }
+    ensures sizes { B.sizes bank.new ≡ B.sizes bank.old }
+    ensures serials { B.serials bank.new ≡ B.serials bank.old }
+{
+    let Ok(mut block) = MpbBuf::new(alloc, MAX_BLOCK_SECTORS) else {
+        return end_without_memory(sink);
+    };
+    let count = bank.disks();
+    prove!(count == 1);
+    let found = found(bank, DiskNo(0), &mut block);
+    print_found(alloc, found, &block, sink)
+}

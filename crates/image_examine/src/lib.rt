@@ -1,0 +1,9 @@
+//! The command `examine` on a bank: what is found on a disk is printed.
+#![tactic(auto)]
+
+mod examining;
+#[cfg(test)]
+mod tests;
+mod text;
+
+pub use examining::examine;

@@ -1,0 +1,10 @@
+//! How bytes and numbers of a metadata block are printed, and lines of them.
+#![tactic(auto)]
+
+mod bytes;
+mod number;
+mod word;
+
+pub use bytes::{digits_of, is_plain, name_bytes, push_all_escaped, push_escaped, push_name};
+pub use number::{push_hex_byte, push_hex_number, push_number};
+pub use word::{Word, push_line};
