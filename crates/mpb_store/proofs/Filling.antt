@@ -1,12 +1,14 @@
 -- The sectors of a block, joined, are its bytes and zeros.
-use Rattle.std.proofs.Common.{◌≡◌, min, ℕ, ◌+◌, ◌*◌, ◌-◌, ◌<◌, ◌≤◌, ◌⊎◌, inl, inr, List, [], ◌∷◌, ◌++◌, length, take, drop, set, replicate, sym, ◌∙◌, ap, arith}
+use Rattle.std.proofs.Common.{◌≡◌, min, ℕ, zero, suc, ◌+◌, ◌*◌, ◌-◌, ◌<◌, ◌≤◌, ◌⊎◌, inl, inr, List, [], ◌∷◌, ◌++◌, length, map, take, drop, set, replicate, refl, sym, ◌∙◌, ap, arith}
+use Rattle.std.specs.List.{range_with_len}
 use Rattle.std.proofs.lemmas.Bool.{cases_order}
 use Rattle.std.proofs.Math.Seq.{take-append-add, drop-append-add}
 use Rattle.std.proofs.lemmas.List.{append-nil, take_all, drop_all, drop-replicate, take-replicate, take-append-le, drop-append-le, take-append-drop, take-take, drop-take, length-drop, take_more_set}
+use Rattle.std.proofs.lemmas.List.FromFn.{map-range_with_len_more}
 use Rattle.std.proofs.lemmas.Grind.{flat_map-append}
 use Rattle.imsm_base.specs.Edits.{first_sector}
 use Rattle.imsm_base.specs.declared.units.Sector.{Sector}
-use Rattle.mpb_store.specs.Sectors.{bytes_in, filled}
+use Rattle.mpb_store.specs.Sectors.{block_sector, block_sectors, bytes_in, filled}
 
 -- the first bytes of bytes with zeros behind them
 front-short : (n m : ℕ) (bytes : List ℕ) → length bytes ≤ n → n ≤ m → take n (bytes ++ replicate m 0) ≡ bytes ++ replicate (n - length bytes) 0
@@ -94,22 +96,36 @@ bytes-more : (sectors : List Sector) (s : Sector) → bytes_in (sectors ++ s ∷
 bytes-more sectors s =
     flat_map-append (λ (x : Sector). x.0) sectors (s ∷ []) ∙ ap (λ (x : List ℕ). bytes_in sectors ++ x) (append-nil s.0)
 
--- one more sector is filled in
-pub filled-more : (k : ℕ) (sectors : List Sector) (s : Sector) (bytes : List ℕ) → k < 16 → length sectors ≡ 16 → s.0 ≡ first_sector (drop (512 * k) bytes)
-    → bytes_in (take k sectors) ≡ take (512 * k) (bytes ++ replicate 8192 0)
-    → bytes_in (take (k + 1) (set sectors k s)) ≡ take (512 * (k + 1)) (bytes ++ replicate 8192 0)
-filled-more k sectors s bytes few len is before =
-    ap bytes_in (take_more_set sectors k s (omega arith))
-    ∙ bytes-more (take k sectors) s
-    ∙ ap (λ (x : List ℕ). x ++ s.0) before
-    ∙ ap (λ (x : List ℕ). take (512 * k) (ample bytes) ++ x) (is ∙ piece (512 * k) bytes (omega arith))
+-- the bytes of a block's first sectors
+pub bytes_in-front : (bytes : List ℕ) (k : ℕ) → k ≤ 16 → bytes_in (map (block_sector bytes) (range_with_len 0 k)) ≡ take (512 * k) (bytes ++ replicate 8192 0)
+bytes_in-front bytes zero few = refl
+bytes_in-front bytes (suc k) few =
+    ap (λ (n : ℕ). bytes_in (map (block_sector bytes) (range_with_len 0 n))) (let same : suc k ≡ k + 1 = omega arith in same)
+    ∙ ap bytes_in (map-range_with_len_more (block_sector bytes) 0 k k (omega arith))
+    ∙ bytes-more (map (block_sector bytes) (range_with_len 0 k)) (block_sector bytes k)
+    ∙ ap (λ (x : List ℕ). x ++ first_sector (drop (512 * k) bytes)) (bytes_in-front bytes k (omega arith))
+    ∙ ap (λ (x : List ℕ). take (512 * k) (ample bytes) ++ x) (piece (512 * k) bytes (omega arith))
     ∙ front-more (512 * k) 512 (ample bytes)
-    ∙ ap (λ (n : ℕ). take n (ample bytes)) (let same : 512 * k + 512 ≡ 512 * (k + 1) = omega arith in same)
+    ∙ ap (λ (n : ℕ). take n (ample bytes)) (let same : 512 * k + 512 ≡ 512 * suc k = omega arith in same)
 
-pub filled-all : (k : ℕ) (sectors : List Sector) (bytes : List ℕ) → k ≡ 16 → length sectors ≡ 16 → length bytes ≤ 8192
-    → bytes_in (take k sectors) ≡ take (512 * k) (bytes ++ replicate 8192 0) → bytes_in sectors ≡ filled bytes
-filled-all k sectors bytes last len few is =
-    ap bytes_in (sym (take_all k sectors (omega arith)))
-    ∙ is
-    ∙ ap (λ (n : ℕ). take n (ample bytes)) (let end : 512 * k ≡ 8192 = omega arith in end)
-    ∙ front-short 8192 8192 bytes few (omega arith)
+-- one more sector is filled in
+pub sectors-more : (k : ℕ) (sectors : List Sector) (s : Sector) (bytes : List ℕ) → k < 16 → length sectors ≡ 16 → s.0 ≡ first_sector (drop (512 * k) bytes)
+    → take k sectors ≡ map (block_sector bytes) (range_with_len 0 k) → take (k + 1) (set sectors k s) ≡ map (block_sector bytes) (range_with_len 0 (k + 1))
+sectors-more k sectors s bytes few len is before =
+    take_more_set sectors k s (omega arith)
+    ∙ ap (λ (x : List Sector). x ++ s ∷ []) before
+    ∙ ap (λ (x : Sector). map (block_sector bytes) (range_with_len 0 k) ++ x ∷ []) (sector_is is)
+    ∙ sym (map-range_with_len_more (block_sector bytes) 0 k k (omega arith))
+  where
+    sector_is : s.0 ≡ first_sector (drop (512 * k) bytes) → s ≡ block_sector bytes k
+    sector_is same = let made : List ℕ → Sector = λ b. record { 0 = b } in ap made same
+
+pub sectors-all : (k : ℕ) (sectors : List Sector) (bytes : List ℕ) → k ≡ 16 → length sectors ≡ 16
+    → take k sectors ≡ map (block_sector bytes) (range_with_len 0 k) → sectors ≡ block_sectors bytes
+unfolding block_sectors
+sectors-all k sectors bytes last len is =
+    sym (take_all k sectors (omega arith)) ∙ is ∙ ap (λ (n : ℕ). map (block_sector bytes) (range_with_len 0 n)) last
+
+pub bytes_in-block_sectors : (bytes : List ℕ) → length bytes ≤ 8192 → bytes_in (block_sectors bytes) ≡ filled bytes
+unfolding block_sectors
+bytes_in-block_sectors bytes few = bytes_in-front bytes 16 (omega arith) ∙ front-short 8192 8192 bytes few (omega arith)

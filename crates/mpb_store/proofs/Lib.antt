@@ -3,3 +3,4 @@ mod Placing
 mod Judged
 mod Followed
 mod Told
+pub mod Standing

@@ -23,7 +23,7 @@ use Rattle.mpb_store.proofs.Placing.{by_room, unread_small, left_is, extended_si
 use Rattle.mpb_store.proofs.Judged.{found_is_one, found_from, block_of_disk}
 use Rattle.mpb_store.proofs.Followed.{extended_same}
 
-abbrev places_by : ℕ → ℕ → List ℕ
+abbrev pub places_by : ℕ → ℕ → List ℕ
 places_by n count = anchor_place n ∷ range_with_len (anchor_place n - count) count
 
 front-size : (bytes : List ℕ) → size_in (take 512 bytes) ≡ size_in bytes
@@ -53,7 +53,7 @@ bytes_read r at well room none so =
     ∙ ap (λ (c : ℕ). bytes_at at (places_by r.sectors c)) (sym (front-extended r.bytes) ∙ ap extended_by anchor)
 
 -- the block is the one that stands there by its definition
-from_places : (at : ℕ → Sector) (place count : ℕ) → bytes_at at (range_with_len place count) ≡ sectors_from at place count
+pub from_places : (at : ℕ → Sector) (place count : ℕ) → bytes_at at (range_with_len place count) ≡ sectors_from at place count
 from_places at place zero = refl
 from_places at place (suc k) = ap (λ (x : List ℕ). (at place).0 ++ x) (from_places at (place + 1) k)
 

@@ -1,7 +1,7 @@
 //! The sectors of a metadata block.
 ghost use Rattle.std.specs.Prelude.{◌≡◌, drop};
 ghost use Rattle.imsm_base.specs.Edits.{first_sector};
-ghost use Rattle.mpb_store.specs.Sectors.{bytes_in, filled};
+ghost use Rattle.mpb_store.specs.Sectors.{block_sectors, bytes_in, filled};
 
 use imsm_base::{MAX_WRITE_SECTORS, SECTOR_BYTES, Sector};
 use imsm_buffer::MpbBuf;
@@ -19,7 +19,8 @@ fn sector_from(bytes: &[u8], place: usize) -> Sector
 
 /// Puts a block's sectors into a list: the anchor sector at 0, behind it the extended sectors, then sectors of zeros.
 pub fn sectors_of(mpb: &MpbBuf, into: &mut [Sector; MAX_WRITE_SECTORS])
-    ensures { bytes_in into.new ≡ filled mpb.now.bytes }
+    ensures sectors { into.new ≡ block_sectors mpb.now.bytes }
+    ensures bytes { bytes_in into.new ≡ filled mpb.now.bytes }
 {
     let bytes = mpb.bytes();
     for number in 0..MAX_WRITE_SECTORS {

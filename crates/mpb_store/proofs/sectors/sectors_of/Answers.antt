@@ -1,21 +1,26 @@
 use Rattle.std.proofs.Common.{List, ℕ, ap, ◌∙◌, arith}
 use Rattle.std.proofs.lemmas.Grind.{common_steps}
-use Rattle.mpb_store.specs.Sectors.{filled}
-use Rattle.mpb_store.proofs.Filling.{filled-more, filled-all}
+use Rattle.mpb_store.specs.Sectors.{block_sectors, bytes_in, filled}
+use Rattle.mpb_store.proofs.Filling.{sectors-more, sectors-all, bytes_in-block_sectors}
 use Rattle.mpb_store.proofs.sectors.sectors_of.Goals as goal
 
 pub loop-number-preserved : goal.loop-number-preserved
 loop-number-preserved c =
-    let sectors = c.loop-number.into in
     let number : ℕ = c.loop-number.number in
     record {
       count = grind (arith, common_steps);
-      joined = filled-more number sectors c.sector_from.result c.bytes-bytes.result.now c.loop-number-test.true c.loop-number.invariant.count c.sector_from.ensures c.loop-number.invariant.joined;
+      front = sectors-more number c.loop-number.into c.sector_from.result c.bytes-bytes.result.now c.loop-number-test.true c.loop-number.invariant.count c.sector_from.ensures
+          c.loop-number.invariant.front;
     }
 
-pub returns : goal.returns
-returns c =
-    let sectors = c.loop-number.into in
+pub returns-clause-sectors : goal.returns-clause-sectors
+returns-clause-sectors c =
+    sectors-all c.loop-number.number c.loop-number.into c.bytes-bytes.result.now (omega arith) c.loop-number.invariant.count c.loop-number.invariant.front
+    ∙ ap block_sectors c.bytes-bytes.ensures.bytes
+
+pub returns-clause-bytes : goal.returns-clause-bytes
+returns-clause-bytes c =
     let bytes : List ℕ = c.bytes-bytes.result.now in
-    filled-all c.loop-number.number sectors bytes (omega arith) c.loop-number.invariant.count (omega arith) c.loop-number.invariant.joined
+    ap bytes_in (sectors-all c.loop-number.number c.loop-number.into bytes (omega arith) c.loop-number.invariant.count c.loop-number.invariant.front)
+    ∙ bytes_in-block_sectors bytes (omega arith)
     ∙ ap filled c.bytes-bytes.ensures.bytes

@@ -1,0 +1,4 @@
+pub mod Calls
+pub mod Stops
+pub mod Laid
+pub mod Steps
