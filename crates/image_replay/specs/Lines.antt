@@ -1,18 +1,14 @@
 -- The lines of a replay but for those of its journal. Source: this project's own.
-use Rattle.std.specs.Prelude.{ℕ, List, ◌++◌, codes, slice_index_or}
+use Rattle.std.specs.Prelude.{ℕ, List, codes, slice_index_or}
 use Rattle.imsm_base.specs.declared.units.Serial.{Serial}
 use Rattle.stage.specs.declared.ends.DriveEnd.{DriveEnd}
 use Rattle.stage.specs.declared.ends.DriveEnd.TheVariants.{Over, Full, Member}
 use Rattle.image_verdict.specs.Images.{blank_serial}
-use Rattle.imsm_text.specs.Text.{serial_text, line_feed}
+use Rattle.image_lines.specs.Lines.{failed_member_line}
 
 -- an operation names a volume that the container doesn't have
 abbrev pub absent_volume_line : List ℕ
 absent_volume_line = codes "volume 1 absent\n"
-
--- a call on this disk failed
-abbrev pub failed_member_line : Serial → List ℕ
-failed_member_line s = codes "member " ++ (serial_text s ++ line_feed)
 
 -- the line behind the journal, of a run on disks of these serials
 abbrev pub end_line : List Serial → DriveEnd → List ℕ

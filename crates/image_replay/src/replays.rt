@@ -17,9 +17,10 @@ ghost use Rattle.image_replay.specs.Ends.{IsRan, IsUnstarted, asks_second, end_s
 ghost use Rattle.image_replay.specs.Lines.{absent_volume_line, end_line};
 ghost use Rattle.image_replay.specs.Replays.{Plays, Replays};
 
-use crate::lines::{write_failed_member, write_journal};
+use crate::lines::write_journal;
 use crate::runs::{Finished, run};
 use array_model::{Entry, OpKind, Script};
+use image_lines::write_failed_member;
 use image_outside::{Sink, Status, end, end_without_memory, write_all};
 use image_verdict::{ImageRead, print_report, read_images, report_on};
 use imsm_base::{DiskNo, SERIAL_BYTES, Serial, VolNo};
