@@ -1,13 +1,13 @@
 //! Blocks that are laid down on disks in memory.
-ghost use Rattle.std.specs.Prelude.{◌≡◌, ◌≤◌};
+ghost use Rattle.std.specs.Prelude.{◌≡◌, ◌≤◌, IfOk};
 
 use crate::{first_small, lay_down};
-use imsm_base::{DiskNo, MAX_DISKS, SECTOR_BYTES, Sector, Serial, get_u32, put_u32};
+use imsm_base::{DiskNo, SECTOR_BYTES, Sector, Serial, get_u32, put_u32};
 use imsm_buffer::MpbBuf;
 use imsm_codec::check;
 use member_bank::{Bank, FailAt, LogRoom, MemBank, MemDisk};
 use mpb_store::{Found, found};
-use std::alloc::Global;
+use std::alloc::{AllocError, Global};
 use std::process::Abort;
 use std::test::Fail;
 
@@ -54,6 +54,13 @@ fn serial(letter: u8) -> Serial {
     serial
 }
 
+fn disk(alloc: Global, serial: Serial, size: usize) -> Result<MemDisk, AllocError>
+    ensures { IfOk result (λ d. d.serial ≡ serial) }
+{
+    let sectors = vec![in alloc; Sector([OLD; SECTOR_BYTES]); size]?;
+    Ok(MemDisk { serial, sectors })
+}
+
 /// A bank of disks A and B of so many sectors.
 fn bank_of(
     rt: &impl Abort,
@@ -66,12 +73,11 @@ fn bank_of(
         sectors: 9000,
     };
     let mut bank = MemBank::new(alloc, Vec::new(alloc), fails.to_vec(alloc)?, room)?;
-    for (letter, size) in [(b'A', sizes[0]), (b'B', sizes[1])] {
-        assert!(rt; (bank.disks() as usize) < MAX_DISKS);
-        let sectors = vec![in alloc; Sector([OLD; SECTOR_BYTES]); size]?;
-        let serial = serial(letter);
-        bank.add(alloc, MemDisk { serial, sectors })?;
-    }
+    let first = serial(b'A');
+    let second = serial(b'B');
+    assert!(rt; first != second);
+    bank.add(alloc, disk(alloc, first, sizes[0])?)?;
+    bank.add(alloc, disk(alloc, second, sizes[1])?)?;
     Ok(bank)
 }
 
@@ -91,13 +97,15 @@ fn byte_at<B: Bank>(rt: &impl Abort, bank: &mut B, d: DiskNo, place: u64) -> u8 
     sector.0[0]
 }
 
-/// What is found on a disk.
-fn look<B: Bank>(rt: &impl Abort, bank: &mut B, d: DiskNo, into: &mut MpbBuf) -> Found
-    requires { 8192 ≤ into.old.room }
-    ensures { into.new.room ≡ into.old.room }
-{
+/// What is found on a disk. A block that is found is the one that was written.
+fn look<B: Bank>(rt: &impl Abort, alloc: Global, bank: &mut B, d: DiskNo) -> Found {
     assert!(rt; d.0 < bank.disks());
-    found(bank, d, into)
+    let mut into = block(rt, alloc);
+    let answer = found(bank, d, &mut into);
+    if answer == Found::Whole {
+        assert!(rt; into.bytes() == block_bytes().as_slice());
+    }
+    answer
 }
 
 // 4,001 rows are 250 writes of 16 sectors and one of 1. The block has three sectors, of which the first begins with I.
@@ -105,7 +113,6 @@ fn look<B: Bank>(rt: &impl Abort, bank: &mut B, d: DiskNo, into: &mut MpbBuf) ->
 fn a_block_is_laid_on_two_disks(rt: HostRuntime) -> Result<(), Fail> {
     let alloc = rt.alloc();
     let written = block(&rt, alloc);
-    let mut into = block(&rt, alloc);
     let mut bank = bank_of(&rt, alloc, [4030, 4100], &[])?;
     assert_eq!(rt; lay(&rt, &mut bank, 4001, &written), Ok(()));
     for (disk, size) in [(DiskNo(0), 4030u64), (DiskNo(1), 4100)] {
@@ -116,8 +123,7 @@ fn a_block_is_laid_on_two_disks(rt: HostRuntime) -> Result<(), Fail> {
         assert_eq!(rt; byte_at(&rt, &mut bank, disk, size - 4), 0);
         assert_eq!(rt; byte_at(&rt, &mut bank, disk, size - 2), b'I');
         assert_eq!(rt; byte_at(&rt, &mut bank, disk, size - 1), OLD);
-        assert_eq!(rt; look(&rt, &mut bank, disk, &mut into), Found::Whole);
-        assert!(rt; into.bytes() == written.bytes());
+        assert_eq!(rt; look(&rt, alloc, &mut bank, disk), Found::Whole);
     }
     Ok(())
 }
@@ -127,7 +133,6 @@ fn a_block_is_laid_on_two_disks(rt: HostRuntime) -> Result<(), Fail> {
 fn the_first_failed_call_ends_it(rt: HostRuntime) -> Result<(), Fail> {
     let alloc = rt.alloc();
     let written = block(&rt, alloc);
-    let mut into = block(&rt, alloc);
     let cases = [
         (1, Some(0), Found::Blank),
         (4, Some(0), Found::Blank),
@@ -146,7 +151,7 @@ fn the_first_failed_call_ends_it(rt: HostRuntime) -> Result<(), Fail> {
             None => Ok(()),
         };
         assert_eq!(rt; lay(&rt, &mut bank, 20, &written), answer);
-        assert_eq!(rt; look(&rt, &mut bank, DiskNo(0), &mut into), there);
+        assert_eq!(rt; look(&rt, alloc, &mut bank, DiskNo(0)), there);
     }
     Ok(())
 }
