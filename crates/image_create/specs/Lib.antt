@@ -2,3 +2,4 @@ pub mod Calls
 pub mod Stops
 pub mod Laid
 pub mod Steps
+pub mod Room

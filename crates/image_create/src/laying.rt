@@ -1,6 +1,5 @@
 //! Zeros are written to every disk, and then the block.
-ghost use Rattle.std.specs.Prelude.{◌≡◌, ◌+◌, ◌*◌, ◌<◌, ◌≤◌, ◌∷◌, [], ℕ, All, IfErr, OnErr, OnOk, length, map, slice_index};
-ghost use Rattle.std.specs.List.{range_with_len, flat_map};
+ghost use Rattle.std.specs.Prelude.{◌≡◌, ◌+◌, ◌<◌, ◌≤◌, ◌∷◌, [], ℕ, All, IfErr, OnErr, OnOk, length, slice_index};
 ghost use Rattle.imsm_base.specs.declared.bounds.TheConstants.{HEADER_BYTES, MAX_BLOCK_BYTES, MAX_WRITE_SECTORS as MOST, METADATA_SECTORS};
 ghost use Rattle.member_bank.specs.Faults.{Rose};
 ghost use Rattle.member_bank.specs.Told.{Keeps, LogsAll};
@@ -29,7 +28,7 @@ fn write<B: Bank>(bank: &mut B, d: DiskNo, place: u64, sectors: &[Sector]) -> Re
     requires disk { d.0 < length (B.sizes bank.old) }
     requires place { place + length sectors.now ≤ slice_index (B.sizes bank.old) d.0 }
     requires some { 0 < length sectors.now }
-    requires few { length sectors.now ≤ 16 }
+    requires few { length sectors.now ≤ MOST }
     ensures ok { OnOk result (LogsAll (B.log bank.old) (B.log bank.new) (write_call d.0 place sectors.now ∷ [])) }
     ensures err { OnErr result (StopsAt (B.log bank.old) (B.log bank.new) (write_call d.0 place sectors.now ∷ []) d.0) }
     ensures cause { OnErr result (Rose (B.faults_of bank.old d.0) (B.faults_of bank.new d.0)) }
@@ -86,7 +85,7 @@ fn zero_disk<B: Bank>(bank: &mut B, d: DiskNo, rows: u64) -> Result<(), Failed>
 /// Does a step of writing a block, whose sectors these are.
 fn take_step<B: Bank>(bank: &mut B, d: DiskNo, sectors: &[Sector], step: Step) -> Result<(), Failed>
     requires disk { d.0 < length (B.sizes bank.old) }
-    requires all { length sectors.now ≡ 16 }
+    requires all { length sectors.now ≡ MOST }
     requires placed { IsPlaced (slice_index (B.sizes bank.old) d.0) step }
     ensures ok { OnOk result (LogsAll (B.log bank.old) (B.log bank.new) (step_calls d.0 sectors.now step)) }
     ensures err { OnErr result (StopsAt (B.log bank.old) (B.log bank.new) (step_calls d.0 sectors.now step) d.0) }
@@ -112,7 +111,7 @@ fn write_block<B: Bank>(
 ) -> Result<(), Failed>
     requires disk { d.0 < length (B.sizes bank.old) }
     requires room { METADATA_SECTORS ≤ slice_index (B.sizes bank.old) d.0 }
-    requires all { length sectors.now ≡ 16 }
+    requires all { length sectors.now ≡ MOST }
     requires least { HEADER_BYTES ≤ size }
     requires most { size ≤ MAX_BLOCK_BYTES }
     ensures ok { OnOk result (LogsAll (B.log bank.old) (B.log bank.new) (block_calls sectors.now size d.0 (slice_index (B.sizes bank.old) d.0))) }
@@ -150,7 +149,7 @@ fn zero_disks<B: Bank>(bank: &mut B, rows: u64) -> Result<(), DiskNo>
 /// Writes a block of so many bytes to all disks, in the order of their numbers. A failed call names its disk.
 fn write_blocks<B: Bank>(bank: &mut B, sectors: &[Sector], size: u16) -> Result<(), DiskNo>
     requires room { All (λ n. METADATA_SECTORS ≤ n) (B.sizes bank.old) }
-    requires all { length sectors.now ≡ 16 }
+    requires all { length sectors.now ≡ MOST }
     requires least { HEADER_BYTES ≤ size }
     requires most { size ≤ MAX_BLOCK_BYTES }
     ensures ok { OnOk result (LogsAll (B.log bank.old) (B.log bank.new) (calls_on (block_calls sectors.now size) (B.sizes bank.old) (length (B.sizes bank.old)))) }
