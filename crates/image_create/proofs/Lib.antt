@@ -5,3 +5,4 @@ pub mod Stepping
 pub mod Turned
 pub mod Places
 pub mod Law
+pub mod Listed

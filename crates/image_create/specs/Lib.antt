@@ -3,3 +3,4 @@ pub mod Stops
 pub mod Laid
 pub mod Steps
 pub mod Room
+pub mod Creates

@@ -1,5 +1,5 @@
 use Rattle.std.proofs.Common.{◌≡◌, ℕ, ◌+◌, ◌<◌, ◌≤◌, List, length, take, sym, subst, arith, rules}
-use Rattle.std.specs.Prelude.{All, slice_index, ◌∷◌, [], ◌++◌}
+use Rattle.std.specs.Prelude.{All, slice_index}
 use Rattle.std.proofs.lemmas.List.{take_all, take_more}
 use Rattle.std.proofs.lemmas.List.Elements.{All-push}
 use Rattle.image_create.proofs.room.first_small.Goals as goal
