@@ -6,14 +6,20 @@ ghost use Rattle.array_model.specs.Kept.{ScriptState};
 ghost use Rattle.member_bank.specs.Faults.{Rose};
 ghost use Rattle.image_outside.specs.Outside.{Adds, HasOnlyReads, IsUnused};
 ghost use Rattle.image_outside.specs.Endings.{EndsWithoutMemory, images_limit_line, words_line};
-ghost use Rattle.image_words.specs.Words.{ImageWord, IsAssemble, IsCommand, IsPastLimit, IsReplay, IsWithinLimit, serials_named, texts};
+ghost use Rattle.new_container.specs.declared.container.NewContainer.{NewContainer};
+ghost use Rattle.image_words.specs.Words.{ImageWord, IsAssemble, IsCommand, IsCreate, IsExamine, IsPastLimit, IsReplay, IsWithinLimit, serials_named, texts};
 ghost use Rattle.image_verdict.specs.Endings.{IsReported, Tells};
+ghost use Rattle.image_create.specs.Creates.{IsCreated};
+ghost use Rattle.image_examine.specs.Endings.{IsExamined};
 ghost use Rattle.image_replay.specs.Ends.{IsRan};
+ghost use Rattle.image_run.specs.Commands.{CreatesAs, ExaminesAs, NamesCreate};
 ghost use Rattle.image_run.specs.Scripts.{StopsBy, TakesScript, stop_line, stop_status};
 ghost use Rattle.image_run.specs.Replays.{IsPlayed, IsStopped, NamesReplay, PlaysOn};
 ghost use Rattle.image_run.specs.declared.script.ScriptStop.{ScriptStop as Stop};
 
 use crate::assembling::assemble_images;
+use crate::creating::create_images;
+use crate::examining::examine_image;
 use crate::replaying::replay_images;
 use image_outside::{Shelf, Sink, Source, Status, end, end_without_memory};
 use image_words::{Command, Verb, WordsFault, parse};
@@ -21,12 +27,16 @@ use std::alloc::Global;
 
 /// Runs a command that waits for nobody.
 ///
-/// The words are `assemble` and words NAME=FILE, at least one, or `replay`, perhaps `--journal N`, and words NAME=FILE. The
-/// status is 0 where the volume starts or the replay is done, 1 where the words are others, 2 where a disk of the container
-/// is absent, 3 where an operation names a volume that isn't there, 4 where a line of the script isn't in the grammar, 5
-/// where the script couldn't be read, 6 where a line couldn't be written, 7 where an image couldn't be opened, 8 where the
-/// journal is full, 9 without memory, 10 where a limit is passed, 13 where a call on a disk failed, and 14 where an image
-/// isn't of the form that is started today.
+/// The words are `create`, perhaps `--family H`, the level, strip and size of one volume or two, and words NAME=FILE;
+/// `examine` and one word NAME=FILE; `assemble` and words NAME=FILE, at least one; or `replay`, perhaps `--journal N`, and
+/// words NAME=FILE.
+///
+/// The status is 0 where the container was made, the block is whole, the volume starts or the replay is done, 1 where the
+/// words are others, 2 where a disk of the container is absent, 3 where an image is too small, no whole block is found, or an
+/// operation names a volume that isn't there, 4 where a line of the script isn't in the grammar, 5 where the script couldn't
+/// be read, 6 where a line couldn't be written, 7 where an image couldn't be opened, 8 where the journal is full, 9 without
+/// memory, 10 where a limit is passed, 13 where a call on a disk failed, and 14 where an image isn't of the form that is
+/// started today.
 pub fn image_still<H: Shelf, S: Source, K: Sink>(
     alloc: Global,
     words: &[String],
@@ -36,8 +46,8 @@ pub fn image_still<H: Shelf, S: Source, K: Sink>(
 ) -> Status
     requires unused { IsSomeAnd (H.held shelf.old) (IsUnused H.Held.serials H.Held.log) }
 
-    // No disk is written or synced but by a run.
-    ensures reads { (NamesReplay (texts words.now) → ⊥) → IsSomeAnd (H.held shelf.new) (HasOnlyReads H.Held.log) }
+    // No disk is written or synced but by a run, or to make a container.
+    ensures reads { (NamesReplay (texts words.now) → ⊥) → (NamesCreate (texts words.now) → ⊥) → IsSomeAnd (H.held shelf.new) (HasOnlyReads H.Held.log) }
     ensures unwritten { (IsRan result.0 → ⊥) → (result.0 ≡ 6 → ⊥) → IsSomeAnd (H.held shelf.new) (HasOnlyReads H.Held.log) }
 
     // The source is read by a replay alone, and nothing is opened where the words are outside the grammar or name too many
@@ -55,6 +65,10 @@ pub fn image_still<H: Shelf, S: Source, K: Sink>(
         → IsReported result.0 ⊎ (result.0 ≡ 6) ⊎ (result.0 ≡ 7) ⊎ (result.0 ≡ 9) }
     ensures replayed { NamesReplay (texts words.now)
         → IsPlayed result.0 ⊎ IsStopped result.0 ⊎ (result.0 ≡ 6) ⊎ (result.0 ≡ 7) ⊎ (result.0 ≡ 9) }
+    ensures examined { (images : List ImageWord) → IsExamine (texts words.now) images
+        → IsExamined result.0 ⊎ (result.0 ≡ 6) ⊎ (result.0 ≡ 7) ⊎ (result.0 ≡ 9) }
+    ensures created { (made : NewContainer) (images : List ImageWord) → IsCreate (texts words.now) made images
+        → IsCreated result.0 ⊎ (result.0 ≡ 6) ⊎ (result.0 ≡ 7) ⊎ (result.0 ≡ 9) }
     ensures write_fault { result.0 ≡ 6 → Rose (K.faults_of sink.old) (K.faults_of sink.new) }
     ensures open_fault { result.0 ≡ 7 → Rose (H.faults_of shelf.old) (H.faults_of shelf.new) }
 
@@ -64,6 +78,10 @@ pub fn image_still<H: Shelf, S: Source, K: Sink>(
     ensures memory { result.0 ≡ 9 → EndsWithoutMemory (K.written sink.old) (K.written sink.new) (K.faults_of sink.old) (K.faults_of sink.new) }
     ensures told { (images : List ImageWord) → IsAssemble (texts words.now) images → IsReported result.0 → IsSomeAnd (H.held shelf.new)
         (Tells H.Held.serials H.Held.sizes H.Held.opening H.Held.log (serials_named images) (K.written sink.old) (K.written sink.new) result.0) }
+    ensures shown { (images : List ImageWord) → IsExamine (texts words.now) images → IsExamined result.0 → IsSomeAnd (H.held shelf.new)
+        (ExaminesAs H.Held.serials H.Held.sizes H.Held.opening H.Held.log H.Held.faults_of (serials_named images) (K.written sink.old) (K.written sink.new) result.0) }
+    ensures made { (made : NewContainer) (images : List ImageWord) → IsCreate (texts words.now) made images → IsCreated result.0 → IsSomeAnd (H.held shelf.new)
+        (CreatesAs H.Held.serials H.Held.sizes H.Held.opening H.Held.log H.Held.faults_of made (serials_named images) (K.written sink.old) (K.written sink.new) result.0) }
     ensures stopped { NamesReplay (texts words.now) → IsStopped result.0 → (stop : Stop)
         × StopsBy (S.left source.old) (S.left source.new) (S.faults_of source.old) (S.faults_of source.new) stop
         × (result.0 ≡ stop_status stop) × Adds (K.written sink.old) (K.written sink.new) (stop_line stop) }
@@ -81,6 +99,8 @@ pub fn image_still<H: Shelf, S: Source, K: Sink>(
     let Command { verb, images } = command;
     match verb {
         Verb::Assemble => assemble_images(alloc, images.as_slice(), shelf, sink),
+        Verb::Create(made) => create_images(alloc, images.as_slice(), &made, shelf, sink),
+        Verb::Examine => examine_image(alloc, images.as_slice(), shelf, sink),
         Verb::Replay { limit } => {
             replay_images(alloc, images.as_slice(), limit, shelf, source, sink)
         }
@@ -97,8 +117,8 @@ pub fn image_main<H: Shelf, S: Source, K: Sink>(
 ) -> Status
     requires unused { IsSomeAnd (H.held shelf.old) (IsUnused H.Held.serials H.Held.log) }
 
-    // No disk is written or synced but by a run.
-    ensures reads { (NamesReplay (texts words.now) → ⊥) → IsSomeAnd (H.held shelf.new) (HasOnlyReads H.Held.log) }
+    // No disk is written or synced but by a run, or to make a container.
+    ensures reads { (NamesReplay (texts words.now) → ⊥) → (NamesCreate (texts words.now) → ⊥) → IsSomeAnd (H.held shelf.new) (HasOnlyReads H.Held.log) }
     ensures unwritten { (IsRan result.0 → ⊥) → (result.0 ≡ 6 → ⊥) → IsSomeAnd (H.held shelf.new) (HasOnlyReads H.Held.log) }
 
     // The source is read by a replay alone, and nothing is opened where the words are outside the grammar or name too many
@@ -116,6 +136,10 @@ pub fn image_main<H: Shelf, S: Source, K: Sink>(
         → IsReported result.0 ⊎ (result.0 ≡ 6) ⊎ (result.0 ≡ 7) ⊎ (result.0 ≡ 9) }
     ensures replayed { NamesReplay (texts words.now)
         → IsPlayed result.0 ⊎ IsStopped result.0 ⊎ (result.0 ≡ 6) ⊎ (result.0 ≡ 7) ⊎ (result.0 ≡ 9) }
+    ensures examined { (images : List ImageWord) → IsExamine (texts words.now) images
+        → IsExamined result.0 ⊎ (result.0 ≡ 6) ⊎ (result.0 ≡ 7) ⊎ (result.0 ≡ 9) }
+    ensures created { (made : NewContainer) (images : List ImageWord) → IsCreate (texts words.now) made images
+        → IsCreated result.0 ⊎ (result.0 ≡ 6) ⊎ (result.0 ≡ 7) ⊎ (result.0 ≡ 9) }
     ensures write_fault { result.0 ≡ 6 → Rose (K.faults_of sink.old) (K.faults_of sink.new) }
     ensures open_fault { result.0 ≡ 7 → Rose (H.faults_of shelf.old) (H.faults_of shelf.new) }
 
@@ -125,6 +149,10 @@ pub fn image_main<H: Shelf, S: Source, K: Sink>(
     ensures memory { result.0 ≡ 9 → EndsWithoutMemory (K.written sink.old) (K.written sink.new) (K.faults_of sink.old) (K.faults_of sink.new) }
     ensures told { (images : List ImageWord) → IsAssemble (texts words.now) images → IsReported result.0 → IsSomeAnd (H.held shelf.new)
         (Tells H.Held.serials H.Held.sizes H.Held.opening H.Held.log (serials_named images) (K.written sink.old) (K.written sink.new) result.0) }
+    ensures shown { (images : List ImageWord) → IsExamine (texts words.now) images → IsExamined result.0 → IsSomeAnd (H.held shelf.new)
+        (ExaminesAs H.Held.serials H.Held.sizes H.Held.opening H.Held.log H.Held.faults_of (serials_named images) (K.written sink.old) (K.written sink.new) result.0) }
+    ensures made { (made : NewContainer) (images : List ImageWord) → IsCreate (texts words.now) made images → IsCreated result.0 → IsSomeAnd (H.held shelf.new)
+        (CreatesAs H.Held.serials H.Held.sizes H.Held.opening H.Held.log H.Held.faults_of made (serials_named images) (K.written sink.old) (K.written sink.new) result.0) }
     ensures stopped { NamesReplay (texts words.now) → IsStopped result.0 → (stop : Stop)
         × StopsBy (S.left source.old) (S.left source.new) (S.faults_of source.old) (S.faults_of source.new) stop
         × (result.0 ≡ stop_status stop) × Adds (K.written sink.old) (K.written sink.new) (stop_line stop) }

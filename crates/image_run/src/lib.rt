@@ -3,6 +3,8 @@
 
 mod assembling;
 mod command;
+mod creating;
+mod examining;
 mod opening;
 mod replaying;
 mod script;
