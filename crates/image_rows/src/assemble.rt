@@ -36,10 +36,11 @@ fn prints_the_verdict(rt: HostRuntime) -> Result<(), Fail> {
 #[test]
 fn refuses_other_words(rt: HostRuntime) -> Result<(), Fail> {
     let alloc = rt.alloc();
-    let rows: [&[&'static str]; 14] = [
+    let rows: [&[&'static str]; 15] = [
         &[],
         &["assemble"],
-        &["examine", "A=a"],
+        &["incremental", "A=a"],
+        &["examine", "A=a", "B=b"],
         &["assemble", "a"],
         &["assemble", "=a"],
         &["assemble", "A="],

@@ -2,13 +2,13 @@
 ghost use Rattle.std.specs.Prelude.{◌≡◌, length, IfOk};
 
 use image_run::{MemFile, MemShelf, MemSink, MemSource, Status, image_main};
-use imsm_base::Sector;
+use imsm_base::{Sector, get_u32, put_u32};
 use member_bank::{FailAt, LogRoom, MemDisk};
 use std::alloc::Global;
 use std::test::Fail;
 
 /// A container of two disks of 4,096 sectors, A and B, with one volume of two copies, of 1,024 sectors in strips of 128.
-const MIRROR: [u8; 480] = [
+pub const NEW_MIRROR: [u8; 480] = [
     0x49, 0x6e, 0x74, 0x65, 0x6c, 0x20, 0x52, 0x61, 0x69, 0x64, 0x20, 0x49, 0x53, 0x4d, 0x20, 0x43,
     0x66, 0x67, 0x20, 0x53, 0x69, 0x67, 0x2e, 0x20, 0x31, 0x2e, 0x33, 0x2e, 0x30, 0x30, 0x00, 0x00,
     0x0b, 0x51, 0x70, 0x47, 0xe0, 0x01, 0x00, 0x00, 0x59, 0x70, 0x25, 0x6d, 0x01, 0x00, 0x00, 0x00,
@@ -41,19 +41,88 @@ const MIRROR: [u8; 480] = [
     0x00, 0x00, 0x00, 0x00, 0x00, 0x00, 0x00, 0x00, 0x00, 0x00, 0x00, 0x00, 0x01, 0x00, 0x00, 0x00,
 ];
 
-/// A file of so many zero sectors.
-pub fn blank(alloc: Global, name: &str, sectors: usize) -> Result<MemFile, Fail> {
+/// A file of so many sectors, each of bytes of this value.
+pub fn filled(alloc: Global, name: &str, sectors: usize, byte: u8) -> Result<MemFile, Fail> {
     Ok(MemFile {
         name: String::from_str(alloc, name)?,
-        sectors: vec![in alloc; Sector([0; 512]); sectors]?,
+        sectors: vec![in alloc; Sector([byte; 512]); sectors]?,
     })
+}
+
+/// A file of so many zero sectors.
+pub fn blank(alloc: Global, name: &str, sectors: usize) -> Result<MemFile, Fail> {
+    filled(alloc, name, sectors, 0)
+}
+
+/// The bytes of the largest block.
+pub type Bytes = [u8; 8192];
+
+/// The block of the new mirror with so many bytes, of which these are others, and with the right size and checksum.
+pub fn changed(size: usize, changes: &[(usize, &[u8])]) -> Bytes {
+    let mut bytes = [0; 8192];
+    bytes[..480].copy_from_slice(&NEW_MIRROR);
+    put_u32(&mut bytes, 0x24, size.min(8192) as u32);
+    for (at, part) in changes {
+        for (place, byte) in bytes.iter_mut().skip(*at).zip(part.iter()) {
+            *place = *byte;
+        }
+    }
+    let mut sum: u32 = 0;
+    for word in 0..2048 {
+        if word != 8 && 4 * word < size {
+            sum = sum.wrapping_add(get_u32(&bytes, 4 * word));
+        }
+    }
+    put_u32(&mut bytes, 0x20, sum);
+    bytes
+}
+
+/// The sector of this number of a block's bytes, with zeros behind their end.
+fn sector_of(block: &[u8], number: usize) -> Sector {
+    let mut sector = Sector([0; 512]);
+    for at in 0..512 {
+        sector.0[at] = block.get(512 * (number % 16) + at).copied().unwrap_or(0);
+    }
+    sector
+}
+
+/// A file of so many sectors, all 0 but for a block of 1 to 16 sectors where a reader looks for it: its first sector is the
+/// second to last of the file, and the others stand before that.
+pub fn holding(alloc: Global, name: &str, sectors: usize, block: &[u8]) -> Result<MemFile, Fail> {
+    let mut file = blank(alloc, name, sectors)?;
+    let count = block.len().div_ceil(512).min(16);
+    for number in 0..count {
+        let back = if number == 0 { 2 } else { 2 + count - number };
+        if let Some(place) = sectors.checked_sub(back) {
+            if let Some(sector) = file.sectors.get_mut(place) {
+                *sector = sector_of(block, number);
+            }
+        }
+    }
+    Ok(file)
+}
+
+/// Files with the sectors of disks, under these names.
+pub fn files_of(
+    alloc: Global,
+    disks: Vec<MemDisk>,
+    names: &[&'static str],
+) -> Result<Vec<MemFile>, Fail> {
+    let mut files = Vec::new(alloc);
+    for (disk, name) in disks.into_iter().zip(names) {
+        files.push(MemFile {
+            name: String::from_str(alloc, name)?,
+            sectors: disk.sectors,
+        })?;
+    }
+    Ok(files)
 }
 
 /// A file of 4,096 sectors with the container's block, of which bytes are changed.
 pub fn member(alloc: Global, name: &str, changes: &[(usize, u8)]) -> Result<MemFile, Fail> {
     let mut file = blank(alloc, name, 4096)?;
     if let Some(anchor) = file.sectors.get_mut(4094) {
-        anchor.0[..480].copy_from_slice(&MIRROR);
+        anchor.0[..480].copy_from_slice(&NEW_MIRROR);
         for (at, byte) in changes {
             if *at < 512 {
                 anchor.0[*at] = *byte;

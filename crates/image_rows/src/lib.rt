@@ -4,7 +4,15 @@
 #[cfg(test)]
 mod assemble;
 #[cfg(test)]
+mod create;
+#[cfg(test)]
+mod examine;
+#[cfg(test)]
 mod images;
+#[cfg(test)]
+mod mdadm;
+#[cfg(test)]
+mod mdadm_blocks;
 #[cfg(test)]
 mod replay;
 #[cfg(test)]

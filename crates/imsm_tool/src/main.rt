@@ -176,4 +176,33 @@ mod tests {
         }
         Ok(())
     }
+
+    /// Two files of 64 MiB, of which one has other bytes in row 5.
+    #[test]
+    fn a_container_is_made_over_two_files(rt: HostRuntime) -> Result<(), Fail> {
+        for path in ["e.img", "f.img"] {
+            let file = File::create(&rt, path)?;
+            file.set_len(131_072 * 512)?;
+            file.write_all_at(b"old bytes", 5 * 512)?;
+        }
+        let made = ["create", "1", "128", "65536", "E=e.img", "F=f.img"];
+        let mut lines = Vec::new(rt.alloc());
+        assert_eq!(rt; run(&rt, &made, "", &mut OutSink::new(&mut lines))?, 0);
+        assert_eq!(rt; lines.as_slice(), b"created 6d2b4a59\n".as_slice());
+        let file = File::open(&rt, "f.img")?;
+        let mut bytes = [0xee; 9];
+        file.read_exact_at(&mut bytes, 5 * 512)?;
+        assert_eq!(rt; bytes, [0; 9]);
+        let examined = ["examine", "F=f.img"];
+        let mut lines = Vec::new(rt.alloc());
+        assert_eq!(rt; run(&rt, &examined, "", &mut OutSink::new(&mut lines))?, 0);
+        let told =
+            b"family 6d2b4a59\norig 6d2b4a59\ngeneration 1\nsize 480\nattributes 00000000\nchecksum 4781df0b\n\
+            disk 0 E 131072 00000002\ndisk 1 F 131072 00000002\nvolume 0 Volume0 65536\ndirty 0\n\
+            map 0 level 1 members 2 state 0 strip 128 pba 0 blocks 65536\nslot 0 0 in\nslot 1 1 in\n";
+        assert_eq!(rt; lines.as_slice(), told.as_slice());
+        fs::remove_file(&rt, "e.img")?;
+        fs::remove_file(&rt, "f.img")?;
+        Ok(())
+    }
 }
