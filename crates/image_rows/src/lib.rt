@@ -6,7 +6,7 @@ mod assemble;
 #[cfg(test)]
 mod create;
 #[cfg(test)]
-mod examine;
+mod examined;
 #[cfg(test)]
 mod images;
 #[cfg(test)]
