@@ -8,14 +8,14 @@ use Rattle.device_log.specs.Log.{Call}
 use Rattle.member_bank.specs.Faults.{Rose}
 use Rattle.new_container.specs.declared.container.NewContainer.{NewContainer}
 use Rattle.new_container.specs.declared.disk.NewDisk.{NewDisk}
-use Rattle.new_container.specs.Created.{created_block, created_bytes}
+use Rattle.new_container.specs.Created.{CanCreate, created_block, created_bytes}
 use Rattle.new_container.specs.Fits.{total_rows}
 use Rattle.image_outside.specs.Outside.{Adds}
 use Rattle.image_lines.specs.Lines.{created_line, failed_member_line, small_line}
 use Rattle.image_create.specs.Calls.{create_calls}
 use Rattle.image_create.specs.Laid.{LaysDown}
 use Rattle.image_create.specs.Room.{IsFirstBelow}
-use Rattle.image_create.specs.Stops.{StopsAt}
+use Rattle.image_create.specs.Stops.{AreMade, StopsAt}
 
 -- the container was made, an image is too small for it, or a device call failed
 abbrev pub IsCreated : ℕ → Type 0
@@ -52,7 +52,12 @@ pub record StopsBy {B : Type 0} (serials : B → List Serial) (log : B → Optio
   pub stops : StopsAt (log before) (log after) calls d
   pub line : Adds old new (failed_member_line serial)
 
--- the same of the calls of a new container
+-- The calls of a new container were made, all of them, or those before the first that failed. No disk is too small.
+pub record AreMadeOf (made : NewContainer) (serials : List Serial) (sizes : List ℕ) (before log : Option (List Call)) : Type 0 where
+  pub can : CanCreate made (disks_of serials sizes)
+  pub calls : AreMade before log (create_calls sizes (total_rows made (length serials)) (created_bytes made (disks_of serials sizes)))
+
+-- a call of a new container failed
 abbrev pub FailsIn : {B : Type 0} (made : NewContainer) (serials : B → List Serial) (sizes : B → List ℕ) (log : B → Option (List Call)) (faults : B → ℕ → ℕ)
     (old new : Option (List ℕ)) (before after : B) → Type 0
 FailsIn made serials sizes log faults old new before after =

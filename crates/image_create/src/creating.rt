@@ -12,8 +12,9 @@ ghost use Rattle.image_outside.specs.Outside.{Adds};
 ghost use Rattle.image_outside.specs.Endings.{EndsWithoutMemory};
 ghost use Rattle.image_lines.specs.Lines.{created_line, failed_member_line, small_line};
 ghost use Rattle.image_create.specs.Calls.{create_calls};
-ghost use Rattle.image_create.specs.Creates.{Creates, FailsIn, IsCreated, Refuses, StopsBy, disks_of};
+ghost use Rattle.image_create.specs.Creates.{AreMadeOf, Creates, FailsIn, IsCreated, Refuses, StopsBy, disks_of};
 ghost use Rattle.image_create.specs.Laid.{LaysDown};
+ghost use Rattle.image_create.specs.Stops.{AreMade};
 
 use crate::laying::lay_down;
 use crate::room::first_small;
@@ -89,6 +90,7 @@ fn end_created<K: Sink>(family: u32, sink: &mut K) -> Status
 fn make<B: Bank, K: Sink>(bank: &mut B, rows: u64, block: &MpbBuf, sink: &mut K) -> Status
     requires { All (λ n. rows + METADATA_SECTORS ≤ n) (B.sizes bank.old) }
     ensures status { (result.0 ≡ 0) ⊎ (result.0 ≡ 13) ⊎ (result.0 ≡ 6) }
+    ensures made { AreMade (B.log bank.old) (B.log bank.new) (create_calls (B.sizes bank.old) rows block.now.bytes) }
     ensures calls { result.0 ≡ 0 → LogsAll (B.log bank.old) (B.log bank.new) (create_calls (B.sizes bank.old) rows block.now.bytes) }
     ensures laid { result.0 ≡ 0 → LaysDown (B.sizes bank.old) rows block.now.bytes (B.opening bank.new) (B.log bank.old) (B.log bank.new) }
     ensures line { result.0 ≡ 0 → Adds (K.written sink.old) (K.written sink.new) (created_line (family_of (parts_of block.now))) }
@@ -119,8 +121,10 @@ pub fn create<B: Bank, K: Sink>(
     requires fits { container_fits made.now (length (B.serials bank.old)) ≡ true }
     ensures status { IsCreated result.0 ⊎ (result.0 ≡ 6) ⊎ (result.0 ≡ 9) }
 
-    // No call on a disk is made where one is too small, or without memory.
+    // No call on a disk is made where one is too small, or without memory, and else none but those of the container: all, or
+    // those before the first that fails.
     ensures untouched { (result.0 ≡ 3) ⊎ (result.0 ≡ 9) → bank.new ≡ bank.old }
+    ensures made { (bank.new ≡ bank.old) ⊎ AreMadeOf made.now (B.serials bank.old) (B.sizes bank.old) (B.log bank.old) (B.log bank.new) }
 
     // When each status comes, and what is printed.
     ensures write_fault { result.0 ≡ 6 → Rose (K.faults_of sink.old) (K.faults_of sink.new) }

@@ -12,7 +12,7 @@ ghost use Rattle.image_verdict.specs.Endings.{IsReported, Tells};
 ghost use Rattle.image_create.specs.Creates.{IsCreated};
 ghost use Rattle.image_examine.specs.Endings.{IsExamined};
 ghost use Rattle.image_replay.specs.Ends.{IsRan};
-ghost use Rattle.image_run.specs.Commands.{CreatesAs, ExaminesAs, NamesCreate};
+ghost use Rattle.image_run.specs.Commands.{CreatesAs, ExaminesAs, NamesCreate, WritesFor};
 ghost use Rattle.image_run.specs.Scripts.{StopsBy, TakesScript, stop_line, stop_status};
 ghost use Rattle.image_run.specs.Replays.{IsPlayed, IsStopped, NamesReplay, PlaysOn};
 ghost use Rattle.image_run.specs.declared.script.ScriptStop.{ScriptStop as Stop};
@@ -49,6 +49,8 @@ pub fn image_still<H: Shelf, S: Source, K: Sink>(
     // No disk is written or synced but by a run, or to make a container.
     ensures reads { (NamesReplay (texts words.now) → ⊥) → (NamesCreate (texts words.now) → ⊥) → IsSomeAnd (H.held shelf.new) (HasOnlyReads H.Held.log) }
     ensures unwritten { (IsRan result.0 → ⊥) → (result.0 ≡ 6 → ⊥) → IsSomeAnd (H.held shelf.new) (HasOnlyReads H.Held.log) }
+    ensures wrote { (made : NewContainer) (images : List ImageWord) → IsCreate (texts words.now) made images → IsSomeAnd (H.held shelf.new) (λ bank. HasOnlyReads H.Held.log bank
+        ⊎ WritesFor H.Held.serials H.Held.sizes H.Held.log made (serials_named images) bank) }
 
     // The source is read by a replay alone, and nothing is opened where the words are outside the grammar or name too many
     // images.
@@ -120,6 +122,8 @@ pub fn image_main<H: Shelf, S: Source, K: Sink>(
     // No disk is written or synced but by a run, or to make a container.
     ensures reads { (NamesReplay (texts words.now) → ⊥) → (NamesCreate (texts words.now) → ⊥) → IsSomeAnd (H.held shelf.new) (HasOnlyReads H.Held.log) }
     ensures unwritten { (IsRan result.0 → ⊥) → (result.0 ≡ 6 → ⊥) → IsSomeAnd (H.held shelf.new) (HasOnlyReads H.Held.log) }
+    ensures wrote { (made : NewContainer) (images : List ImageWord) → IsCreate (texts words.now) made images → IsSomeAnd (H.held shelf.new) (λ bank. HasOnlyReads H.Held.log bank
+        ⊎ WritesFor H.Held.serials H.Held.sizes H.Held.log made (serials_named images) bank) }
 
     // The source is read by a replay alone, and nothing is opened where the words are outside the grammar or name too many
     // images.

@@ -9,7 +9,7 @@ ghost use Rattle.image_outside.specs.Endings.{EndsWithoutMemory};
 ghost use Rattle.image_words.specs.Words.{AreImages, serials_named};
 ghost use Rattle.image_words.specs.Args.{words_of};
 ghost use Rattle.image_create.specs.Creates.{IsCreated};
-ghost use Rattle.image_run.specs.Commands.{CreatesAs};
+ghost use Rattle.image_run.specs.Commands.{CreatesAs, WritesFor};
 
 use crate::opening::{OpenFault, open_all};
 use image_create::create;
@@ -34,6 +34,8 @@ fn create_on<H: Shelf, K: Sink>(
     ensures memory { result.0 ≡ 9 → EndsWithoutMemory (K.written sink.old) (K.written sink.new) (K.faults_of sink.old) (K.faults_of sink.new) }
     ensures created { IsCreated result.0 → IsSomeAnd (H.held shelf.new) (CreatesAs H.Held.serials H.Held.sizes H.Held.opening H.Held.log H.Held.faults_of
         made.now (serials_named (words_of names.now)) (K.written sink.old) (K.written sink.new) result.0) }
+    ensures wrote { IsSomeAnd (H.held shelf.new) (λ bank. HasOnlyReads H.Held.log bank
+        ⊎ WritesFor H.Held.serials H.Held.sizes H.Held.log made.now (serials_named (words_of names.now)) bank) }
     ensures faults { H.faults_of shelf.new ≡ H.faults_of shelf.old }
 {
     let mut bank = shelf.lend();
@@ -61,6 +63,8 @@ pub(crate) fn create_images<H: Shelf, K: Sink>(
     ensures memory { result.0 ≡ 9 → EndsWithoutMemory (K.written sink.old) (K.written sink.new) (K.faults_of sink.old) (K.faults_of sink.new) }
     ensures created { IsCreated result.0 → IsSomeAnd (H.held shelf.new) (CreatesAs H.Held.serials H.Held.sizes H.Held.opening H.Held.log H.Held.faults_of
         made.now (serials_named (words_of images.now)) (K.written sink.old) (K.written sink.new) result.0) }
+    ensures wrote { IsSomeAnd (H.held shelf.new) (λ bank. HasOnlyReads H.Held.log bank
+        ⊎ WritesFor H.Held.serials H.Held.sizes H.Held.log made.now (serials_named (words_of images.now)) bank) }
 {
     match open_all(alloc, images, shelf) {
         Ok(()) => create_on(alloc, images, made, shelf, sink),

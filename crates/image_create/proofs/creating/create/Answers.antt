@@ -1,4 +1,4 @@
-use Rattle.std.proofs.Common.{◌≡◌, ◌∙◌, ◌+◌, ◌≤◌, ◌++◌, ℕ, List, [], All, length, Option, None, Some, IfSome, ap, subst, sym, refl}
+use Rattle.std.proofs.Common.{◌≡◌, ◌∙◌, ◌+◌, ◌≤◌, ◌++◌, ℕ, List, [], All, length, Option, None, Some, IfSome, ap, subst, sym, refl, inr}
 use Rattle.imsm_base.specs.declared.bounds.TheConstants.{METADATA_SECTORS}
 use Rattle.imsm_base.specs.Layout.{Block, family_of}
 use Rattle.imsm_base.proofs.Joined.{block_in-spelled}
@@ -12,6 +12,7 @@ use Rattle.image_create.specs.Calls.{create_calls}
 use Rattle.image_create.specs.Creates.{StopsBy, disks_of}
 use Rattle.image_create.specs.Laid.{LaysDown}
 use Rattle.image_create.specs.Room.{IsFirstBelow}
+use Rattle.image_create.specs.Stops.{AreMade}
 use Rattle.image_create.proofs.Listed.{can_create}
 use Rattle.image_create.proofs.creating.create.Goals as goal
 
@@ -96,3 +97,20 @@ returns-in-Ok-new_block-clause-failed g c is =
     let bytes : c.in-Ok-new_block.block.bytes ≡ created_bytes made (disks_of serials sizes) = c.in-Ok-new_block.ensures.bytes ∙ ap (created_bytes made) given in
     let by : ℕ → List ℕ → Type 0 = λ r b. StopsBy B.serials B.log B.faults_of (create_calls sizes r b) (g.K.Sink.written c.args.sink.now) (g.K.Sink.written c.make.new.sink) c.args.bank.now c.make.new.bank in
     subst (λ (r : ℕ). by r (created_bytes made (disks_of serials sizes))) rows (subst (by c.total_rows-rows.result) bytes (c.make.ensures.failed is))
+
+pub returns-in-Ok-new_block-clause-made : goal.returns-in-Ok-new_block-clause-made
+returns-in-Ok-new_block-clause-made g c =
+    let B = g.B.Bank in
+    let made = c.args.made.now in
+    let serials = B.serials c.args.bank.now in
+    let sizes = B.sizes c.args.bank.now in
+    let many : c.from.result ≡ length serials = c.from.ensures ∙ c.disks.ensures.count ∙ sym c.disks.ensures.named in
+    let rows : c.total_rows-rows.result ≡ total_rows made (length serials) = c.total_rows-rows.ensures.rows ∙ ap (total_rows made) many in
+    let given : c.as_slice.result.now ≡ disks_of serials sizes = c.as_slice.ensures.value ∙ c.in-Ok.ensures in
+    let bytes : c.in-Ok-new_block.block.bytes ≡ created_bytes made (disks_of serials sizes) = c.in-Ok-new_block.ensures.bytes ∙ ap (created_bytes made) given in
+    let are : ℕ → List ℕ → Type 0 = λ r b. AreMade (B.log c.args.bank.now) (B.log c.make.new.bank) (create_calls sizes r b) in
+    inr (record {
+      can = can_create made serials sizes c.disks.ensures.named c.requires.fits c.disks.ensures.distinct
+          (subst (λ (r : ℕ). All (λ n. r + METADATA_SECTORS ≤ n) sizes) rows c.in_default.ensures);
+      calls = subst (λ (r : ℕ). are r (created_bytes made (disks_of serials sizes))) rows (subst (are c.total_rows-rows.result) bytes c.make.ensures.made);
+    })

@@ -1,4 +1,4 @@
-use Rattle.std.proofs.Common.{◌≡◌, ◌≤◌, ℕ, List, length, Err, inr, subst, ap, arith, ◌∙◌}
+use Rattle.std.proofs.Common.{◌≡◌, ◌≤◌, ◌⊎◌, ℕ, List, length, Err, inr, subst, ap, arith, ◌∙◌}
 use Rattle.std.specs.Fmt.{digits}
 use Rattle.std.specs.Option.{IsSomeAnd}
 use Rattle.imsm_base.specs.declared.bounds.TheConstants.{MAX_DISKS}
@@ -9,7 +9,8 @@ use Rattle.image_words.specs.Args.{words_of}
 use Rattle.image_words.specs.declared.verbs.Verb.{Verb}
 use Rattle.image_words.specs.declared.verbs.Verb.TheVariants.{Assemble, Create, Examine, Replay}
 use Rattle.image_verdict.specs.Endings.{Tells}
-use Rattle.image_run.specs.Commands.{CreatesAs, ExaminesAs}
+use Rattle.image_outside.specs.Outside.{HasOnlyReads}
+use Rattle.image_run.specs.Commands.{CreatesAs, ExaminesAs, WritesFor}
 use Rattle.image_run.specs.Replays.{PlaysOn}
 use Rattle.image_run.proofs.command.image_still.Goals as goal
 
@@ -66,3 +67,13 @@ returns-in-Examine-clause-shown g c images named status =
     subst (λ (is : List ImageWord). IsSomeAnd (g.H.Shelf.held c.examine_image.new.shelf)
     (ExaminesAs B.serials B.sizes B.opening B.log B.faults_of (serials_named is) (g.K.Sink.written c.args.sink.now) (g.K.Sink.written c.examine_image.new.sink) c.examine_image.result.0))
     same (c.examine_image.ensures.examined status)
+
+pub returns-in-Create-clause-wrote : goal.returns-in-Create-clause-wrote
+returns-in-Create-clause-wrote g c made images named =
+    let B = g.H.Held.Bank in
+    let only = c.in-Ok.ensures.only (Create made) images named in
+    let same : words_of c.as_slice-in-Create.result.now ≡ images = ap words_of c.as_slice-in-Create.ensures.value ∙ only.1 in
+    let on : List ImageWord → NewContainer → Type 0 = λ is m. IsSomeAnd (g.H.Shelf.held c.create_images.new.shelf)
+    (λ bank. HasOnlyReads B.log bank ⊎ WritesFor B.serials B.sizes B.log m (serials_named is) bank) in
+    subst (λ m. on images m) (same_container c.in-Create.made made c.in-Ok.command.verb c.in-Create.is only.0)
+    (subst (λ is. on is c.in-Create.made) same c.create_images.ensures.wrote)
