@@ -6,3 +6,4 @@ pub mod Turned
 pub mod Places
 pub mod Law
 pub mod Listed
+pub mod Ending

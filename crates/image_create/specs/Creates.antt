@@ -1,5 +1,6 @@
 -- What the making of a container leaves of a bank. Source: this project's own.
-use Rattle.std.specs.Prelude.{◌≡◌, ℕ, ◌+◌, ◌⊎◌, List, [], ◌∷◌, length, slice_get, slice_index, Option, Some, IfSome}
+use Rattle.std.specs.Prelude.{◌≡◌, ℕ, ◌+◌, ◌⊎◌, List, [], ◌∷◌, codes, length, slice_get, slice_index, Option, Some, IfSome}
+use Rattle.std.specs.Fmt.{decimal}
 use Rattle.imsm_base.specs.declared.bounds.TheConstants.{METADATA_SECTORS}
 use Rattle.imsm_base.specs.declared.units.Sector.{Sector}
 use Rattle.imsm_base.specs.declared.units.Serial.{Serial}
@@ -11,15 +12,24 @@ use Rattle.new_container.specs.declared.disk.NewDisk.{NewDisk}
 use Rattle.new_container.specs.Created.{CanCreate, created_block, created_bytes}
 use Rattle.new_container.specs.Fits.{total_rows}
 use Rattle.image_outside.specs.Outside.{Adds}
-use Rattle.image_lines.specs.Lines.{created_line, failed_member_line, small_line}
+use Rattle.image_lines.specs.Lines.{failed_member_line}
+use Rattle.imsm_text.specs.Text.{hex_number, line, serial_text}
 use Rattle.image_create.specs.Calls.{create_calls}
 use Rattle.image_create.specs.Laid.{LaysDown}
 use Rattle.image_create.specs.Room.{IsFirstBelow}
-use Rattle.image_create.specs.Stops.{AreMade, StopsAt}
+use Rattle.image_create.specs.Stops.{StopsAt}
 
 -- the container was made, an image is too small for it, or a device call failed
 abbrev pub IsCreated : ℕ → Type 0
 IsCreated status = (status ≡ 0) ⊎ (status ≡ 3) ⊎ (status ≡ 13)
+
+-- this disk has so many sectors, which are too few
+abbrev pub small_line : Serial → ℕ → List ℕ
+small_line s sectors = line (codes "refused") (codes "small" ∷ serial_text s ∷ decimal sectors ∷ [])
+
+-- a container of this family was made
+abbrev pub created_line : ℕ → List ℕ
+created_line family = line (codes "created") (hex_number family ∷ [])
 
 -- the disks of a bank, by their serials and sizes
 abbrev pub disks_of : List Serial → List ℕ → List NewDisk
@@ -52,13 +62,18 @@ pub record StopsBy {B : Type 0} (serials : B → List Serial) (log : B → Optio
   pub stops : StopsAt (log before) (log after) calls d
   pub line : Adds old new (failed_member_line serial)
 
--- The calls of a new container were made, all of them, or those before the first that failed. No disk is too small.
-pub record AreMadeOf (made : NewContainer) (serials : List Serial) (sizes : List ℕ) (before log : Option (List Call)) : Type 0 where
-  pub can : CanCreate made (disks_of serials sizes)
-  pub calls : AreMade before log (create_calls sizes (total_rows made (length serials)) (created_bytes made (disks_of serials sizes)))
-
 -- a call of a new container failed
 abbrev pub FailsIn : {B : Type 0} (made : NewContainer) (serials : B → List Serial) (sizes : B → List ℕ) (log : B → Option (List Call)) (faults : B → ℕ → ℕ)
     (old new : Option (List ℕ)) (before after : B) → Type 0
 FailsIn made serials sizes log faults old new before after =
     StopsBy serials log faults (create_calls (sizes before) (total_rows made (length (serials before))) (created_bytes made (disks_of (serials before) (sizes before)))) old new before after
+
+-- What the making of a container leaves of a bank, by its status. An image is too small exactly where that is said.
+pub record CreatesBy {B : Type 0} (serials : B → List Serial) (sizes : B → List ℕ) (opening : B → Option (List (List Sector))) (log : B → Option (List Call)) (faults : B → ℕ → ℕ)
+    (made : NewContainer) (old new : Option (List ℕ)) (status : ℕ) (before after : B) : Type 0 where
+  pub is : IsCreated status
+  pub refuses : status ≡ 3 → Refuses made (serials before) (sizes before) old new
+  pub untouched : status ≡ 3 → after ≡ before
+  pub room : (status ≡ 0) ⊎ (status ≡ 13) → CanCreate made (disks_of (serials before) (sizes before))
+  pub creates : status ≡ 0 → Creates made (serials before) (sizes before) (opening after) (log before) (log after) old new
+  pub fails : status ≡ 13 → FailsIn made serials sizes log faults old new before after

@@ -1,5 +1,5 @@
 -- Calls that are made in their order, up to the first that fails. Source: this project's own.
-use Rattle.std.specs.Prelude.{◌≡◌, ℕ, ◌≤◌, ◌⊎◌, false, List, [], ◌∷◌, ◌++◌, Option}
+use Rattle.std.specs.Prelude.{◌≡◌, ℕ, ◌≤◌, false, List, [], ◌∷◌, ◌++◌, Option}
 use Rattle.imsm_base.specs.declared.units.Sector.{Sector}
 use Rattle.imsm_base.specs.declared.units.Serial.{Serial}
 use Rattle.device_log.specs.Log.{Call, What, Read, Write, Sync}
@@ -26,10 +26,6 @@ pub record StopsAt (old new : Option (List Call)) (calls : List Call) (d : ℕ) 
   pub disk : next.disk ≡ d
   pub few : stored ≤ sectors_asked next.what
   pub logs : LogsAll old new (front ++ failed_call next stored ∷ [])
-
--- these calls were made, all of them, or those before the first that failed
-abbrev pub AreMade : Option (List Call) → Option (List Call) → List Call → Type 0
-AreMade old new calls = LogsAll old new calls ⊎ ((d : ℕ) × StopsAt old new calls d)
 
 -- the disks and what is told of their opening stay, and no count of faults falls
 pub record KeepsBank {B : Type 0} (serials : B → List Serial) (sizes : B → List ℕ) (opening : B → Option (List (List Sector))) (faults : B → ℕ → ℕ) (old new : B) : Type 0 where

@@ -1,14 +1,11 @@
 -- A bank of one disk, and what its log says after it was looked at.
-use Rattle.std.proofs.Common.{◌≡◌, ℕ, ◌≤◌, ◌⊎◌, inl, inr, Bool, List, [], ◌∷◌, ◌++◌, length, Option, Some, None, refl, sym, ◌∙◌, ap, subst, arith}
+use Rattle.std.proofs.Common.{◌≡◌, ℕ, Bool, List, [], ◌∷◌, ◌++◌, length, Option, Some, None, refl, sym, ◌∙◌, ap, subst, arith}
 use Rattle.std.specs.Prelude.{IfSome}
 use Rattle.std.specs.List.{AllByRecursion}
 use Rattle.imsm_base.specs.declared.units.Serial.{Serial}
 use Rattle.device_log.specs.Log.{Call, What, Read, Write, Sync}
-use Rattle.mpb_store.specs.declared.answer.Found.{Found}
 use Rattle.mpb_store.specs.Banks.{IsRead as IsDiskRead, IsReadOf, LogsReads, has_failed}
 use Rattle.image_outside.specs.Outside.{IsRead, OnlyReads}
-use Rattle.image_examine.specs.Text.{found_status}
-use Rattle.image_examine.specs.Endings.{IsExamined}
 
 pub if_told : {A : Type 0} (o : Option A) (P : A → Type 0) → ((x : A) → o ≡ Some x → P x) → IfSome o P
 if_told None P holds = tt
@@ -42,13 +39,3 @@ is_read Sync read = read
 pub only_reads : (d : ℕ) (log : List Call) → AllByRecursion (IsReadOf d) log → OnlyReads log
 only_reads d [] each = tt
 only_reads d (call ∷ log) (first, rest) = (is_read call.what first.read, only_reads d log rest)
-
--- a status with a text is that of what was found
-at_most_three : (status : ℕ) → IsExamined status → status ≤ 3
-at_most_three status (inl whole) = omega arith
-at_most_three status (inr other) = omega arith
-
-pub status_found : (found : Found) (status : ℕ) → IsExamined status → (status ≡ found_status found) ⊎ (status ≡ 6) ⊎ (status ≡ 9) → status ≡ found_status found
-status_found found status examined (inl is) = is
-status_found found status examined (inr (inl six)) = absurd (omega (arith, at_most_three status examined))
-status_found found status examined (inr (inr nine)) = absurd (omega (arith, at_most_three status examined))

@@ -1,5 +1,5 @@
 -- How an examination ends. Source: this project's own.
-use Rattle.std.specs.Prelude.{◌≡◌, ℕ, ◌⊎◌, List, [], ◌∷◌, slice_index, Option, IfSome}
+use Rattle.std.specs.Prelude.{◌≡◌, ℕ, List, [], ◌∷◌, slice_index, Option, IfSome}
 use Rattle.imsm_base.specs.declared.units.Sector.{Sector}
 use Rattle.imsm_base.specs.declared.units.Serial.{Serial}
 use Rattle.imsm_base.specs.Parts.{block_in}
@@ -12,10 +12,6 @@ use Rattle.mpb_store.specs.Answers.{IsPastFront}
 use Rattle.mpb_store.specs.Banks.{IsAnswerOn, has_failed, is_unread, sector_after}
 use Rattle.image_outside.specs.Outside.{Adds}
 use Rattle.image_examine.specs.Text.{found_status, found_text}
-
--- a status with a text: a whole block, or what was found in its place
-abbrev pub IsExamined : ℕ → Type 0
-IsExamined status = (status ≡ 0) ⊎ (status ≡ 3)
 
 -- What was found on the one disk of a bank was added as text, and the status is that of it. Where the bank tells its
 -- opening contents and its log, it is what stands there. Whatever it tells, a block that is printed as whole is whole, and

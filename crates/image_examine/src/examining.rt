@@ -1,11 +1,10 @@
 //! What is found on a disk is printed.
-ghost use Rattle.std.specs.Prelude.{◌≡◌, ◌≤◌, ◌⊎◌, ℕ, [], length, IfSome};
-ghost use Rattle.member_bank.specs.Faults.{Rose};
+ghost use Rattle.std.specs.Prelude.{◌≡◌, ◌≤◌, ℕ, [], length, IfSome};
 ghost use Rattle.member_bank.specs.Told.{Keeps};
-ghost use Rattle.image_outside.specs.Outside.{Adds, HasOnlyReads};
-ghost use Rattle.image_outside.specs.Endings.{EndsWithoutMemory};
+ghost use Rattle.image_outside.specs.Outside.{HasOnlyReads};
+ghost use Rattle.image_outside.specs.Endings.{EndsIfMemory, Prints};
 ghost use Rattle.image_examine.specs.Text.{found_status as status_of, found_text as text_of};
-ghost use Rattle.image_examine.specs.Endings.{Examines, IsExamined};
+ghost use Rattle.image_examine.specs.Endings.{Examines};
 
 use crate::text::{found_status, found_text};
 use image_outside::{Sink, Status, end, end_without_memory};
@@ -20,10 +19,8 @@ const MAX_BLOCK_SECTORS: u8 = 16;
 
 /// Prints what was found, where the block is this one if one was. All memory is taken before a line is written.
 fn print_found<K: Sink>(alloc: Global, found: Found, block: &MpbBuf, sink: &mut K) -> Status
-    ensures status { (result.0 ≡ status_of found) ⊎ (result.0 ≡ 6) ⊎ (result.0 ≡ 9) }
-    ensures lines { IsExamined result.0 → Adds (K.written sink.old) (K.written sink.new) (text_of found block.now.bytes) }
-    ensures write_fault { result.0 ≡ 6 → Rose (K.faults_of sink.old) (K.faults_of sink.new) }
-    ensures memory { result.0 ≡ 9 → EndsWithoutMemory (K.written sink.old) (K.written sink.new) (K.faults_of sink.old) (K.faults_of sink.new) }
+    ensures { EndsIfMemory (K.written sink.old) (K.written sink.new) (K.faults_of sink.old) (K.faults_of sink.new)
+        (Prints (text_of found block.now.bytes) (status_of found) (K.written sink.old)) result.0 }
 {
     match found_text(alloc, found, block) {
         Ok(text) => end(sink, text.as_slice(), found_status(found)),
@@ -37,10 +34,8 @@ pub fn examine<B: Bank, K: Sink>(alloc: Global, bank: &mut B, sink: &mut K) -> S
     requires fresh { IfSome (B.log bank.old) (λ l. l ≡ []) }
     requires one { length (B.serials bank.old) ≡ 1 }
     ensures reads { HasOnlyReads B.log bank.new }
-    ensures status { IsExamined result.0 ⊎ (result.0 ≡ 6) ⊎ (result.0 ≡ 9) }
-    ensures write_fault { result.0 ≡ 6 → Rose (K.faults_of sink.old) (K.faults_of sink.new) }
-    ensures memory { result.0 ≡ 9 → EndsWithoutMemory (K.written sink.old) (K.written sink.new) (K.faults_of sink.old) (K.faults_of sink.new) }
-    ensures examined { IsExamined result.0 → Examines B.serials B.sizes B.opening B.log B.faults_of (K.written sink.old) (K.written sink.new) result.0 bank.old bank.new }
+    ensures ends { EndsIfMemory (K.written sink.old) (K.written sink.new) (K.faults_of sink.old) (K.faults_of sink.new)
+        (λ told status. Examines B.serials B.sizes B.opening B.log B.faults_of (K.written sink.old) told status bank.old bank.new) result.0 }
     ensures opening { Keeps (B.opening bank.old) (B.opening bank.new) }
     ensures later { (k : ℕ) → B.faults_of bank.old k ≤ B.faults_of bank.new k }
     ensures sizes { B.sizes bank.new ≡ B.sizes bank.old }

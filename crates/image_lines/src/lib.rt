@@ -1,7 +1,7 @@
-//! Lines of a command that are written without memory.
+//! Lines of words that are written to a sink without memory.
 #![tactic(auto)]
 
-mod lines;
-mod serial;
+mod line;
+mod name;
 
-pub use lines::{write_created, write_failed_member, write_small};
+pub use line::{end_line, write_line};

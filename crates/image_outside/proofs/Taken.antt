@@ -1,7 +1,7 @@
 -- What a source tells after several reads.
 use Rattle.std.proofs.Common.{◌≡◌, ◌∙◌, ◌+◌, ◌-◌, ◌≤◌, ℕ, List, [], ◌++◌, take, drop, length, Option, Some, ap, sym, subst, append_assoc, arith, length-drop, drop-drop}
 use Rattle.std.proofs.lemmas.List.{append-nil, take-append-drop, take_all}
-use Rattle.std.specs.Prelude.{IfSome, OnErr, Result, Ok, Err}
+use Rattle.std.specs.Prelude.{IfSome}
 use Rattle.member_bank.specs.Told.{Keeps}
 use Rattle.image_outside.specs.Outside.{IsAtEnd, Takes, TakesAll}
 
@@ -32,7 +32,3 @@ pub rest_of : (there bytes : List ℕ) (at n : ℕ) (front : List ℕ) → there
 rest_of there bytes at n front same is =
     let all : length (drop at there) ≤ length there - at = omega (arith, length-drop at there) in
     is ∙ ap (take n) (take_all (length there - at) (drop at there) all ∙ ap (drop at) same)
-
-pub on_err : {T E : Type 0} (r : Result T E) (P : Type 0) → P → OnErr r P
-on_err (Ok value) P p = tt
-on_err (Err fault) P p = p

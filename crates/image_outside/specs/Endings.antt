@@ -1,30 +1,32 @@
--- How a command ends early. Source: this project's own.
-use Rattle.std.specs.Prelude.{◌≡◌, ℕ, ◌+◌, Bool, false, List, ◌++◌, codes, Option}
-use Rattle.std.specs.Fmt.{decimal}
-use Rattle.imsm_base.specs.declared.bounds.TheConstants.{MAX_DISKS}
-use Rattle.member_bank.specs.Faults.{Rose}
-use Rattle.image_outside.specs.Outside.{AddsFront}
+-- How a command ends: what is told of its lines, and its status. Source: this project's own.
+use Rattle.std.specs.Prelude.{◌≡◌, ℕ, ◌⊎◌, List, ◌++◌, codes, Option}
+use Rattle.std.specs.Option.{option_map}
+use Rattle.image_outside.specs.Outside.{Adds, BreaksOff}
 
--- the lines of a command that ends early
-abbrev pub words_line : List ℕ
-words_line = codes "words\n"
+-- The lines were cut short by a failed write. These are the bytes that were to come, and with all of them it would have ended
+-- so, with this status.
+pub record IsCutShort (old new : Option (List ℕ)) (before now : ℕ) (Outcome : Option (List ℕ) → ℕ → Type 0) : Type 0 where
+  pub bytes : List ℕ
+  pub status : ℕ
+  pub breaks : BreaksOff old new before now bytes
+  pub ends : Outcome (option_map (λ told. told ++ bytes) old) status
+
+-- it ends so, or with a write fault where the lines were cut short
+abbrev pub Ends : (old new : Option (List ℕ)) (before now : ℕ) (Outcome : Option (List ℕ) → ℕ → Type 0) (status : ℕ) → Type 0
+Ends old new before now Outcome status = Outcome new status ⊎ ((status ≡ 6) × IsCutShort old new before now Outcome)
+
+-- these lines are written, with this status
+abbrev pub Prints : (lines : List ℕ) (status : ℕ) (old new : Option (List ℕ)) (result : ℕ) → Type 0
+Prints lines status old new result = (result ≡ status) × Adds old new lines
 
 abbrev pub memory_line : List ℕ
 memory_line = codes "memory\n"
 
-abbrev pub open_line : List ℕ → List ℕ
-open_line name = codes "open " ++ (name ++ codes "\n")
-
--- a limit that is passed: the limit of what, and the first number past it
-abbrev pub limit_line : List ℕ → ℕ → List ℕ
-limit_line kind past = codes "limit " ++ (kind ++ (codes " " ++ (decimal past ++ codes "\n")))
-
-abbrev pub images_limit_line : List ℕ
-images_limit_line = limit_line (codes "images") (MAX_DISKS + 1)
-
 -- nothing but this line was written, or a front of it where the sink failed
-pub record EndsWithoutMemory (old new : Option (List ℕ)) (before now : ℕ) : Type 0 where
-  pub well : Bool
-  pub count : ℕ
-  pub front : AddsFront old new memory_line well count
-  pub fault : well ≡ false → Rose before now
+abbrev pub EndsWithoutMemory : (old new : Option (List ℕ)) (before now : ℕ) → Type 0
+EndsWithoutMemory old new before now = Adds old new memory_line ⊎ BreaksOff old new before now memory_line
+
+-- it ends so, with a write fault where the lines were cut short, or without memory
+abbrev pub EndsIfMemory : (old new : Option (List ℕ)) (before now : ℕ) (Outcome : Option (List ℕ) → ℕ → Type 0) (status : ℕ) → Type 0
+EndsIfMemory old new before now Outcome status =
+    Outcome new status ⊎ ((status ≡ 6) × IsCutShort old new before now Outcome) ⊎ ((status ≡ 9) × EndsWithoutMemory old new before now)

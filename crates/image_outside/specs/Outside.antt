@@ -1,10 +1,11 @@
 -- What the outside tells: bytes that are left or were written, and the bank that a shelf holds. Source: this project's
 -- own.
-use Rattle.std.specs.Prelude.{◌≡◌, ◌≢◌, ℕ, ◌≤◌, Bool, true, List, [], ◌∷◌, ◌++◌, length, take, All, Option, Some, IfSome, ⊤}
+use Rattle.std.specs.Prelude.{◌≡◌, ◌≢◌, ℕ, List, [], ◌∷◌, ◌++◌, length, All, Option, Some, IfSome, ⊤}
 use Rattle.std.specs.List.{AllByRecursion}
 use Rattle.imsm_base.specs.declared.units.Sector.{Sector}
 use Rattle.imsm_base.specs.declared.units.Serial.{Serial}
 use Rattle.device_log.specs.Log.{Call, What, Read, Write, Sync}
+use Rattle.member_bank.specs.Faults.{Rose}
 use Rattle.member_bank.specs.Told.{Keeps}
 
 -- bytes that are told after a call were told before it, and have these bytes at their end
@@ -12,11 +13,13 @@ abbrev pub Adds : Option (List ℕ) → Option (List ℕ) → List ℕ → Type 
 Adds old new bytes =
     (now : List ℕ) → new ≡ Some now → (before : List ℕ) × (old ≡ Some before) × (now ≡ before ++ bytes)
 
--- some first bytes of these were added: all of them where all went well
-pub record AddsFront (old new : Option (List ℕ)) (bytes : List ℕ) (well : Bool) (count : ℕ) : Type 0 where
-  pub few : count ≤ length bytes
-  pub all : well ≡ true → count ≡ length bytes
-  pub adds : Adds old new (take count bytes)
+-- a write failed before all of these bytes were added: some first of them were
+pub record BreaksOff (old new : Option (List ℕ)) (before now : ℕ) (bytes : List ℕ) : Type 0 where
+  pub front : List ℕ
+  pub rest : List ℕ
+  pub are : bytes ≡ front ++ rest
+  pub adds : Adds old new front
+  pub cause : Rose before now
 
 -- bytes that are told to be left after a call were left before it, behind these
 abbrev pub Takes : Option (List ℕ) → Option (List ℕ) → List ℕ → Type 0

@@ -11,4 +11,4 @@ pub use memory::{MemFault, MemSink, MemSource};
 pub use outside::{Shelf, ShelfFault, Sink, Source, write_all};
 pub use shelf::{MemFile, MemShelf};
 pub use source::{MAX_SOURCE_BYTES, SourceFault, read_all};
-pub use status::{Status, end, end_unopened, end_without_memory};
+pub use status::{Status, end, end_without_memory, status_after};

@@ -1,9 +1,9 @@
 //! The outside as traits: where a command's script comes from, where its lines go, and where its disks come from.
-ghost use Rattle.std.specs.Prelude.{◌≡◌, ℕ, ◌<◌, ◌≤◌, List, Option, Some, None, length, take, drop, is_ok, IsSome, IfOk, IfSome, OnOk, OnErr};
+ghost use Rattle.std.specs.Prelude.{◌≡◌, ℕ, ◌<◌, ◌≤◌, List, Option, Some, None, length, take, drop, IsSome, IfOk, IfSome, OnOk, OnErr};
 ghost use Rattle.std.specs.Option.{IsSomeAnd};
 ghost use Rattle.member_bank.specs.Faults.{Rose};
 ghost use Rattle.member_bank.specs.Told.{Keeps};
-ghost use Rattle.image_outside.specs.Outside.{Adds, AddsFront, Takes, IsAtEnd, IsNew, HasOneMore};
+ghost use Rattle.image_outside.specs.Outside.{Adds, BreaksOff, Takes, IsAtEnd, IsNew, HasOneMore};
 
 use imsm_base::{DiskNo, MAX_DISKS, Serial};
 use member_bank::{Bank, Failed};
@@ -106,9 +106,8 @@ pub trait Shelf {
 /// Writes all of a piece, in as many writes as the sink takes.
 pub fn write_all<K: Sink>(sink: &mut K, bytes: &[u8]) -> Result<(), Failed>
     ensures all { OnOk result (Adds (K.written sink.old) (K.written sink.new) bytes.now) }
-    ensures front { (count : ℕ) × AddsFront (K.written sink.old) (K.written sink.new) bytes.now (is_ok result) count }
     ensures later { K.faults_of sink.old ≤ K.faults_of sink.new }
-    ensures failed { OnErr result (Rose (K.faults_of sink.old) (K.faults_of sink.new)) }
+    ensures failed { OnErr result (BreaksOff (K.written sink.old) (K.written sink.new) (K.faults_of sink.old) (K.faults_of sink.new) bytes.now) }
 {
     let mut at = 0;
     while at < bytes.len() {

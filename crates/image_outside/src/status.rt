@@ -1,8 +1,6 @@
 //! The status of a command, and how it ends.
-ghost use Rattle.std.specs.Prelude.{◌≡◌, ◌≢◌, ◌⊎◌, OnOk, OnErr};
-ghost use Rattle.member_bank.specs.Faults.{Rose};
-ghost use Rattle.image_outside.specs.Outside.{Adds};
-ghost use Rattle.image_outside.specs.Endings.{EndsWithoutMemory, open_line};
+ghost use Rattle.std.specs.Prelude.{◌≡◌, OnOk, OnErr};
+ghost use Rattle.image_outside.specs.Endings.{Ends, EndsWithoutMemory, Prints};
 
 use crate::outside::{Sink, write_all};
 use member_bank::Failed;
@@ -18,7 +16,8 @@ impl Status {
     pub const WORDS: Status = Status(1);
     /// A disk of the container is absent.
     pub const WAITING: Status = Status(2);
-    /// An operation names a volume that isn't there.
+    /// What is asked can't be had of the images: an operation names a volume that isn't there, an image is too small for the
+    /// container, or no whole block is found.
     pub const REFUSED: Status = Status(3);
     /// A line of the script isn't in the grammar.
     pub const SCRIPT: Status = Status(4);
@@ -40,40 +39,22 @@ impl Status {
     pub const UNBUILT: Status = Status(14);
 }
 
-/// Ends with a status and its lines, or with a write fault where they can't be written.
-pub fn end<K: Sink>(sink: &mut K, lines: &[u8], status: Status) -> Status
-    requires { status.0 ≢ 6 }
-    ensures either { (result.0 ≡ status.0) ⊎ (result.0 ≡ 6) }
-    ensures lines { result.0 ≡ status.0 → Adds (K.written sink.old) (K.written sink.new) lines.now }
-    ensures fault { result.0 ≡ 6 → Rose (K.faults_of sink.old) (K.faults_of sink.new) }
+/// The status where all lines were written, or that of a write fault.
+pub fn status_after(written: Result<(), Failed>, status: Status) -> Status
+    ensures ok { OnOk written (result ≡ status) }
+    ensures err { OnErr written (result.0 ≡ 6) }
 {
-    match write_all(sink, lines) {
+    match written {
         Ok(()) => status,
         Err(Failed) => Status::WRITE_FAULT,
     }
 }
 
-/// Writes that an image couldn't be opened. Takes no memory.
-fn write_unopened<K: Sink>(sink: &mut K, name: &str) -> Result<(), Failed>
-    ensures ok { OnOk result (Adds (K.written sink.old) (K.written sink.new) (open_line name.now)) }
-    ensures err { OnErr result (Rose (K.faults_of sink.old) (K.faults_of sink.new)) }
+/// Ends with a status and its lines, or with a write fault where they can't be written.
+pub fn end<K: Sink>(sink: &mut K, lines: &[u8], status: Status) -> Status
+    ensures { Ends (K.written sink.old) (K.written sink.new) (K.faults_of sink.old) (K.faults_of sink.new) (Prints lines.now status.0 (K.written sink.old)) result.0 }
 {
-    write_all(sink, b"open ")?;
-    write_all(sink, name.as_bytes())?;
-    write_all(sink, b"\n")?;
-    Ok(())
-}
-
-/// Ends where an image couldn't be opened.
-pub fn end_unopened<K: Sink>(sink: &mut K, name: &str) -> Status
-    ensures either { (result.0 ≡ 7) ⊎ (result.0 ≡ 6) }
-    ensures line { result.0 ≡ 7 → Adds (K.written sink.old) (K.written sink.new) (open_line name.now) }
-    ensures fault { result.0 ≡ 6 → Rose (K.faults_of sink.old) (K.faults_of sink.new) }
-{
-    match write_unopened(sink, name) {
-        Ok(()) => Status::OPEN_FAULT,
-        Err(Failed) => Status::WRITE_FAULT,
-    }
+    status_after(write_all(sink, lines), status)
 }
 
 /// Ends without memory, also where that can't be written.

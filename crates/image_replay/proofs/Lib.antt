@@ -1,5 +1,5 @@
 pub mod Leaves
-pub mod Printed
 pub mod Scripts
 pub mod Held
+pub mod Printed
 pub mod Replayed

@@ -1,5 +1,5 @@
 -- A run on the images of a bank is a replay on its disks.
-use Rattle.std.proofs.Common.{◌≡◌, ◌≤◌, ℕ, List, ◌++◌, length, map, Option, Some, None, subst, arith}
+use Rattle.std.proofs.Common.{◌≡◌, ◌≤◌, ℕ, List, length, map, Option, Some, None, subst, arith}
 use Rattle.std.specs.Prelude.{IfSome}
 use Rattle.imsm_base.specs.declared.units.Sector.{Sector}
 use Rattle.imsm_base.specs.declared.units.Serial.{Serial}
@@ -9,7 +9,6 @@ use Rattle.array_model.specs.Script.{Asked}
 use Rattle.array_model.specs.declared.journal.Entry.{Entry}
 use Rattle.member_bank.specs.Faults.{Rose}
 use Rattle.member_bank.specs.Told.{Keeps}
-use Rattle.journal_text.specs.Lines.{journal_text}
 use Rattle.stage.specs.declared.ends.DriveEnd.{DriveEnd}
 use Rattle.stage.specs.declared.ends.DriveEnd.TheVariants.{Over, Full, Member}
 use Rattle.image_outside.specs.Outside.{Adds, OnlyReads}
@@ -18,7 +17,7 @@ use Rattle.image_verdict.specs.Images.{serials_of_all, sizes_of_all}
 use Rattle.image_start.specs.Starts.{Starts, StandIn}
 use Rattle.image_start.specs.Openings.{opened_on}
 use Rattle.image_start.proofs.Contents.{filled, some-stand}
-use Rattle.image_replay.specs.Lines.{end_line}
+use Rattle.image_replay.specs.Lines.{run_text}
 use Rattle.image_replay.specs.Runs.{HasEnded}
 use Rattle.image_replay.specs.Replays.{Plays, Replays}
 use Rattle.image_replay.proofs.Held.{Told, Stands, stands_by, told_stands, held_by}
@@ -67,5 +66,5 @@ module _ {B : Type 0} (serials : B → List Serial) (sizes : B → List ℕ) (op
           told = run.told;
         };
         status_is = plays.status_is;
-        lines = subst (λ (s : List Serial). Adds old new (journal_text plays.journal ++ end_line s plays.ended)) same plays.lines;
+        lines = subst (λ (s : List Serial). Adds old new (run_text s plays.journal plays.ended)) same plays.lines;
       }

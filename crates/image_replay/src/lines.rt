@@ -1,8 +1,7 @@
 //! The lines of a journal. Writing them takes no memory.
 ghost use Rattle.std.specs.Prelude.{◌≤◌, OnOk, OnErr};
-ghost use Rattle.member_bank.specs.Faults.{Rose};
 ghost use Rattle.journal_text.specs.Lines.{journal_text};
-ghost use Rattle.image_outside.specs.Outside.{Adds};
+ghost use Rattle.image_outside.specs.Outside.{Adds, BreaksOff};
 
 use array_model::Entry;
 use image_outside::{Sink, write_all};
@@ -12,8 +11,8 @@ use member_bank::Failed;
 /// Writes the lines of a journal.
 pub(crate) fn write_journal<K: Sink>(sink: &mut K, entries: &[Entry]) -> Result<(), Failed>
     ensures ok { OnOk result (Adds (K.written sink.old) (K.written sink.new) (journal_text entries.now)) }
+    ensures err { OnErr result (BreaksOff (K.written sink.old) (K.written sink.new) (K.faults_of sink.old) (K.faults_of sink.new) (journal_text entries.now)) }
     ensures later { K.faults_of sink.old ≤ K.faults_of sink.new }
-    ensures err { OnErr result (Rose (K.faults_of sink.old) (K.faults_of sink.new)) }
 {
     for entry in entries {
         write_all(sink, line_of(entry).as_slice())?;

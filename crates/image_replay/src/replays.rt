@@ -1,29 +1,27 @@
 //! A replay: the images of a bank are read, the script is run on them, and the journal is printed.
-ghost use Rattle.std.specs.Prelude.{◌≡◌, ◌≤◌, ◌⊎◌, ◌++◌, ◌^◌, true, false, [], length, slice_index_or, IfSome, OnOk, OnErr};
+ghost use Rattle.std.specs.Prelude.{◌≡◌, ◌≤◌, ◌^◌, true, [], length, slice_index_or, IfSome, OnOk, OnErr};
 ghost use Rattle.std.specs.List.{list_all};
-ghost use Rattle.member_bank.specs.Faults.{Rose};
 ghost use Rattle.first_opening.specs.Opened.{is_first_op};
 ghost use Rattle.stage.specs.Runs.{OnlyReads};
 ghost use Rattle.stage_law.specs.Runs.{AsksRows};
-ghost use Rattle.image_outside.specs.Outside.{Adds, HasOnlyReads};
-ghost use Rattle.image_outside.specs.Endings.{EndsWithoutMemory};
-ghost use Rattle.journal_text.specs.Lines.{journal_text};
+ghost use Rattle.image_outside.specs.Outside.{Adds, BreaksOff, HasOnlyReads};
+ghost use Rattle.image_outside.specs.Endings.{Ends, EndsIfMemory, Prints};
 ghost use Rattle.run_script.specs.Within.{IsWithin};
 ghost use Rattle.member_bank.specs.Told.{Keeps};
-ghost use Rattle.image_verdict.specs.Images.{blank_serial, images_told, serials_of_all, sizes_of_all};
-ghost use Rattle.image_verdict.specs.Endings.{Reports};
-ghost use Rattle.image_start.specs.Starts.{IsStarted, Starts};
-ghost use Rattle.image_replay.specs.Ends.{IsRan, IsUnstarted, asks_second, end_status, volume_named};
-ghost use Rattle.image_replay.specs.Lines.{absent_volume_line, end_line};
-ghost use Rattle.image_replay.specs.Replays.{Plays, Replays};
+ghost use Rattle.image_verdict.specs.Images.{blank_serial, serials_of_all, sizes_of_all};
+ghost use Rattle.image_start.specs.Starts.{Starts};
+ghost use Rattle.image_replay.specs.Ends.{asks_second, end_status, volume_named};
+ghost use Rattle.image_replay.specs.Lines.{absent_volume_line, end_line, run_text};
+ghost use Rattle.image_replay.specs.Replays.{Plays, ReplaysBy};
 
 use crate::lines::write_journal;
 use crate::runs::{Finished, run};
 use array_model::{Entry, OpKind, Script};
-use image_lines::write_failed_member;
-use image_outside::{Sink, Status, end, end_without_memory, write_all};
+use image_lines::write_line;
+use image_outside::{Sink, Status, end, end_without_memory, status_after, write_all};
 use image_verdict::{ImageRead, print_report, read_images, report_on};
 use imsm_base::{DiskNo, SERIAL_BYTES, Serial, VolNo};
+use imsm_text::Word;
 use member_bank::{Bank, Failed};
 use stage::{DriveEnd, StageFault};
 use std::alloc::Global;
@@ -68,12 +66,12 @@ fn serial_of(images: &[ImageRead], d: DiskNo) -> Serial
 /// Writes the line of a run's end.
 fn write_end<K: Sink>(sink: &mut K, end: DriveEnd, images: &[ImageRead]) -> Result<(), Failed>
     ensures ok { OnOk result (Adds (K.written sink.old) (K.written sink.new) (end_line (serials_of_all images.now) end)) }
-    ensures err { OnErr result (Rose (K.faults_of sink.old) (K.faults_of sink.new)) }
+    ensures err { OnErr result (BreaksOff (K.written sink.old) (K.written sink.new) (K.faults_of sink.old) (K.faults_of sink.new) (end_line (serials_of_all images.now) end)) }
 {
     match end {
         DriveEnd::Over => write_all(sink, b"done\n"),
         DriveEnd::Full => write_all(sink, b"full\n"),
-        DriveEnd::Member(d) => write_failed_member(sink, &serial_of(images, d)),
+        DriveEnd::Member(d) => write_line(sink, b"member", &[Word::Name(&serial_of(images, d).0)]),
     }
 }
 
@@ -84,8 +82,8 @@ fn write_run<K: Sink>(
     end: DriveEnd,
     images: &[ImageRead],
 ) -> Result<(), Failed>
-    ensures ok { OnOk result (Adds (K.written sink.old) (K.written sink.new) (journal_text entries.now ++ end_line (serials_of_all images.now) end)) }
-    ensures err { OnErr result (Rose (K.faults_of sink.old) (K.faults_of sink.new)) }
+    ensures ok { OnOk result (Adds (K.written sink.old) (K.written sink.new) (run_text (serials_of_all images.now) entries.now end)) }
+    ensures err { OnErr result (BreaksOff (K.written sink.old) (K.written sink.new) (K.faults_of sink.old) (K.faults_of sink.new) (run_text (serials_of_all images.now) entries.now end)) }
 {
     write_journal(sink, entries)?;
     write_end(sink, end, images)
@@ -98,14 +96,10 @@ fn print_run<K: Sink>(
     end: DriveEnd,
     images: &[ImageRead],
 ) -> Status
-    ensures status { (result.0 ≡ end_status end) ⊎ (result.0 ≡ 6) }
-    ensures lines { result.0 ≡ end_status end → Adds (K.written sink.old) (K.written sink.new) (journal_text entries.now ++ end_line (serials_of_all images.now) end) }
-    ensures fault { result.0 ≡ 6 → Rose (K.faults_of sink.old) (K.faults_of sink.new) }
+    ensures { Ends (K.written sink.old) (K.written sink.new) (K.faults_of sink.old) (K.faults_of sink.new)
+        (Prints (run_text (serials_of_all images.now) entries.now end) (end_status end) (K.written sink.old)) result.0 }
 {
-    match write_run(sink, entries, end, images) {
-        Ok(()) => status_of(end),
-        Err(Failed) => Status::WRITE_FAULT,
-    }
+    status_after(write_run(sink, entries, end, images), status_of(end))
 }
 
 /// Runs a script on images that start, and prints the run.
@@ -124,11 +118,9 @@ fn play<B: Bank, K: Sink>(
     requires limit { limit ≤ 2 ^ 20 }
     requires rows { AsksRows script.now.ops }
     requires first { list_all is_first_op script.now.ops ≡ true }
-    ensures status { IsRan result.1.0 ⊎ (result.1.0 ≡ 6) ⊎ (result.1.0 ≡ 9) }
-    ensures write_fault { result.1.0 ≡ 6 → Rose (K.faults_of sink.old) (K.faults_of sink.new) }
-    ensures memory { result.1.0 ≡ 9 → EndsWithoutMemory (K.written sink.old) (K.written sink.new) (K.faults_of sink.old) (K.faults_of sink.new) }
+    ensures ends { EndsIfMemory (K.written sink.old) (K.written sink.new) (K.faults_of sink.old) (K.faults_of sink.new)
+        (λ told status. Plays B.serials B.opening B.log B.faults_of images.now script.now limit (K.written sink.old) told status bank result.0) result.1.0 }
     ensures unrun { result.1.0 ≡ 9 → result.0 ≡ bank }
-    ensures played { IsRan result.1.0 → Plays B.serials B.opening B.log B.faults_of images.now script.now limit (K.written sink.old) (K.written sink.new) result.1.0 bank result.0 }
     ensures opening { Keeps (B.opening bank) (B.opening result.0) }
     ensures same { (B.serials result.0 ≡ B.serials bank) × (B.sizes result.0 ≡ B.sizes bank) }
 {
@@ -157,20 +149,9 @@ pub fn replay<B: Bank, K: Sink>(
     requires some { 1 ≤ length (B.serials bank) }
     requires limit { limit ≤ 2 ^ 20 }
     requires script { IsWithin script.now }
-    ensures status { IsUnstarted result.1.0 ⊎ (result.1.0 ≡ 3) ⊎ IsRan result.1.0 ⊎ (result.1.0 ≡ 6) ⊎ (result.1.0 ≡ 9) }
-
-    // No disk is written or synced where no run was made.
-    ensures reads { IsUnstarted result.1.0 ⊎ (result.1.0 ≡ 3) ⊎ (result.1.0 ≡ 9) → HasOnlyReads B.log result.0 }
-
-    // When each status comes, and what is printed.
-    ensures write_fault { result.1.0 ≡ 6 → Rose (K.faults_of sink.old) (K.faults_of sink.new) }
-    ensures memory { result.1.0 ≡ 9 → EndsWithoutMemory (K.written sink.old) (K.written sink.new) (K.faults_of sink.old) (K.faults_of sink.new) }
-    ensures reported { IsUnstarted result.1.0 → IfSome (B.opening result.0) (λ opening. IfSome (B.log result.0) (λ log.
-        Reports (images_told (B.serials bank) (B.sizes bank) opening log) (K.written sink.old) (K.written sink.new) result.1.0)) }
-    ensures absent { result.1.0 ≡ 3 → (asks_second script.now.ops ≡ true) × Adds (K.written sink.old) (K.written sink.new) absent_volume_line }
-    ensures absent_from { result.1.0 ≡ 3 → IfSome (B.opening result.0) (λ opening. IfSome (B.log result.0) (λ log. IsStarted (images_told (B.serials bank) (B.sizes bank) opening log))) }
-    ensures there { IsRan result.1.0 → asks_second script.now.ops ≡ false }
-    ensures replayed { IsRan result.1.0 → Replays B.serials B.sizes B.opening B.log B.faults_of script.now limit (K.written sink.old) (K.written sink.new) result.1.0 bank result.0 }
+    ensures ends { EndsIfMemory (K.written sink.old) (K.written sink.new) (K.faults_of sink.old) (K.faults_of sink.new)
+        (λ told status. ReplaysBy B.serials B.sizes B.opening B.log B.faults_of script.now limit (K.written sink.old) told status bank result.0) result.1.0 }
+    ensures unrun { result.1.0 ≡ 9 → HasOnlyReads B.log result.0 }
     ensures serials { B.serials result.0 ≡ B.serials bank }
 {
     let images = match read_images(alloc, &mut bank) {

@@ -1,5 +1,5 @@
 //! `assemble` over two images.
-use crate::images::{Case, member, pair};
+use command_cases::{Case, member, pair};
 use image_run::Status;
 use std::test::Fail;
 

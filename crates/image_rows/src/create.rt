@@ -1,5 +1,5 @@
 //! `create` over images that hold other bytes, and what the other commands make of them.
-use crate::images::{Case, files_of, filled, member};
+use command_cases::{Case, files_of, filled, member};
 use image_run::{MemFile, Status};
 use imsm_base::Sector;
 use member_bank::MemDisk;

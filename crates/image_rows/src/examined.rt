@@ -1,5 +1,5 @@
 //! `examine` over images that this project made.
-use crate::images::{Case, NEW_MIRROR, changed, holding, pair};
+use command_cases::{Case, NEW_MIRROR, changed, holding, pair};
 use image_run::Status;
 use std::test::Fail;
 

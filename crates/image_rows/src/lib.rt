@@ -1,4 +1,4 @@
-//! Worked rows of the commands, over images in memory.
+//! Worked rows of the commands, over images in memory that this project made.
 #![tactic(auto)]
 
 #[cfg(test)]
@@ -7,12 +7,6 @@ mod assemble;
 mod create;
 #[cfg(test)]
 mod examined;
-#[cfg(test)]
-mod images;
-#[cfg(test)]
-mod mdadm;
-#[cfg(test)]
-mod mdadm_blocks;
 #[cfg(test)]
 mod replay;
 #[cfg(test)]

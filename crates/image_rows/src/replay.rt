@@ -1,5 +1,5 @@
 //! `replay` over two images.
-use crate::images::{Case, member, pair};
+use command_cases::{Case, member, pair};
 use image_run::{MAX_SOURCE_BYTES, Status};
 use member_bank::MemDisk;
 use std::test::Fail;

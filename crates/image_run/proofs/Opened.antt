@@ -1,5 +1,5 @@
 -- One more image is opened: its serial is a new one.
-use Rattle.std.proofs.Common.{◌≡◌, ◌≢◌, ◌≤◌, ◌<◌, ◌+◌, ◌-◌, ◌&&◌, ℕ, zero, suc, List, [], ◌∷◌, ◌++◌, Bool, true, false, not, length, take, get_or, Option, Some, None, refl, sym, ◌∙◌, ap, subst, arith}
+use Rattle.std.proofs.Common.{◌≡◌, ◌≢◌, ◌≤◌, ◌<◌, ◌+◌, ◌-◌, ◌&&◌, ℕ, zero, suc, List, [], ◌∷◌, ◌++◌, Bool, true, false, not, length, take, drop, get_or, Option, Some, None, refl, sym, ◌∙◌, ap, subst, arith}
 use Rattle.std.specs.Prelude.{IfSome, nat_le, replicate}
 use Rattle.std.specs.List.{AllByRecursion, list_all}
 use Rattle.std.specs.Option.{IsSomeAnd}
@@ -13,12 +13,15 @@ use Rattle.imsm_base.specs.declared.bounds.TheConstants.{SERIAL_BYTES}
 use Rattle.imsm_base.specs.declared.units.Serial.{Serial}
 use Rattle.imsm_base.specs.declared.units.Sector.{Sector}
 use Rattle.device_log.specs.Log.{Call}
+use Rattle.member_bank.specs.Faults.{Rose}
 use Rattle.member_bank.specs.Told.{Keeps}
-use Rattle.image_outside.specs.Outside.{IsNew, HasOneMore, HoldsFresh}
+use Rattle.image_outside.specs.Outside.{Adds, HasOneMore, HasOnlyReads, HoldsFresh, IsNew, OnlyReads}
 use Rattle.image_words.specs.declared.words.ImageArg.{ImageArg}
 use Rattle.image_words.specs.Words.{ImageWord, IsImageWord, is_name, is_name_byte, is_apart_from, are_distinct, serial_named, serials_named}
 use Rattle.image_words.specs.Args.{word_of, words_of}
 use Rattle.image_words.proofs.Names.{bytes_of_name}
+use Rattle.image_run.specs.Lines.{open_line}
+use Rattle.image_run.specs.Openings.{OpensNot}
 
 and_left : (a b : Bool) → (a && b) ≡ true → a ≡ true
 and_left true b both = refl
@@ -121,3 +124,35 @@ one_more_held serials opening log (Some b) (Some c) images k d serial below is h
     still_fresh : (old new : Option (List Call)) → IfSome old (λ l. l ≡ []) → Keeps old new → IfSome new (λ l. l ≡ [])
     still_fresh old None fresh keeps = tt
     still_fresh old (Some l) fresh keeps = subst (λ (o : Option (List Call)). IfSome o (λ l. l ≡ [])) (keeps l refl) fresh
+
+-- the images, cut at one of them
+split_at : (ws : List ImageWord) (k : ℕ) (d : ImageWord) → k < length ws → ws ≡ take k ws ++ get_or ws k d ∷ drop (suc k) ws
+split_at [] k d below = absurd (omega arith)
+split_at (w ∷ ws) zero d below = refl
+split_at (w ∷ ws) (suc k) d below = ap (λ (l : List ImageWord). w ∷ l) (split_at ws k d (omega arith))
+
+-- image k couldn't be opened, and its line was written
+pub opens_not : {B : Type 0} (serials : B → List Serial) (log : B → Option (List Call)) (held : Option B) (images : List ImageArg) (k : ℕ) (d : ImageArg) (name : List ℕ) (before now : ℕ) (old full : Option (List ℕ))
+    → k < length images → name ≡ (get_or images k d).name.now → IsSomeAnd held (HoldsFresh serials log (serials_named (take k (words_of images)))) → Rose before now → Adds old full (open_line name)
+    → OpensNot serials log (words_of images) before now held old full 7
+opens_not serials log held images k d name before now old full below is holds rose adds = record {
+  front = take k (words_of images);
+  image = word_of (get_or images k d);
+  rest = drop (suc k) (words_of images);
+  are = subst (λ (w : ImageWord). words_of images ≡ take k (words_of images) ++ w ∷ drop (suc k) (words_of images)) (word_get images k d)
+      (split_at (words_of images) k (word_of d) (omega (arith, words_length images)));
+  opened = holds;
+  cause = rose;
+  status_is = refl;
+  line = subst (λ (n : List ℕ). Adds old full (open_line n)) is adds;
+}
+
+-- a bank that made no call made no write
+pub fresh_reads : {B : Type 0} (serials : B → List Serial) (log : B → Option (List Call)) (names : List Serial) (held : Option B) → IsSomeAnd held (HoldsFresh serials log names) → IsSomeAnd held (HasOnlyReads log)
+fresh_reads serials log names None holds = absurd holds
+fresh_reads {B} serials log names (Some b) holds = none (log b) holds.fresh
+  where
+    none : (calls : Option (List Call)) → IfSome calls (λ l. l ≡ []) → IfSome calls OnlyReads
+    none None fresh = tt
+    none (Some []) fresh = tt
+    none (Some (call ∷ calls)) fresh = absurd (cc fresh)

@@ -1,3 +1,5 @@
+pub mod Lines
+pub mod Openings
 pub mod Scripts
 pub mod Replays
 pub mod Commands

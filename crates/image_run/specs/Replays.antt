@@ -1,39 +1,43 @@
--- What a command leaves of a replay. Source: this project's own.
-use Rattle.std.specs.Prelude.{◌≡◌, ℕ, ◌≤◌, ◌⊎◌, true, false, List, length, Option, IfSome}
+-- How `replay` ends. Source: this project's own.
+use Rattle.std.specs.Prelude.{◌≡◌, ℕ, ◌≤◌, ◌⊎◌, List, length, Option}
+use Rattle.std.specs.Option.{IsSomeAnd}
 use Rattle.imsm_base.specs.declared.bounds.TheConstants.{MAX_DISKS}
 use Rattle.imsm_base.specs.declared.units.Sector.{Sector}
 use Rattle.imsm_base.specs.declared.units.Serial.{Serial}
 use Rattle.device_log.specs.Log.{Call}
 use Rattle.array_model.specs.Kept.{ScriptState}
-use Rattle.image_outside.specs.Outside.{Adds}
-use Rattle.image_words.specs.Words.{ImageWord, IsReplay}
-use Rattle.image_verdict.specs.Images.{images_told}
-use Rattle.image_verdict.specs.Endings.{Reports}
-use Rattle.image_start.specs.Starts.{IsStarted}
-use Rattle.image_replay.specs.Ends.{IsRan, IsUnstarted, asks_second}
-use Rattle.image_replay.specs.Lines.{absent_volume_line}
-use Rattle.image_replay.specs.Replays.{Replays}
+use Rattle.image_outside.specs.Outside.{Adds, HoldsFresh}
+use Rattle.image_words.specs.Words.{ImageWord, IsReplay, serials_named}
+use Rattle.image_replay.specs.Replays.{ReplaysBy}
+use Rattle.image_run.specs.Openings.{OpensNot}
+use Rattle.image_run.specs.Scripts.{IsStopped, StopsBy, TakesScript, stop_line, stop_status}
+use Rattle.image_run.specs.declared.script.ScriptStop.{ScriptStop}
 
 -- the words are a replay of no more images than are opened
 abbrev pub NamesReplay : List (List ℕ) → Type 0
 NamesReplay words = (limit : ℕ) × (images : List ImageWord) × IsReplay words limit images × (length images ≤ MAX_DISKS)
 
--- a replay came to its images: none was made, it names a volume that isn't there, or it was made
-abbrev pub IsPlayed : ℕ → Type 0
-IsPlayed status = IsUnstarted status ⊎ (status ≡ 3) ⊎ IsRan status
+-- All images were opened, and there is no script: the line says why, and no call on a disk was made.
+pub record Stops {B : Type 0} (serials : B → List Serial) (log : B → Option (List Call)) (images : List ImageWord) (held : Option B)
+    (left_before left_now : Option (List ℕ)) (before now : ℕ) (old new : Option (List ℕ)) (status : ℕ) : Type 0 where
+  pub stop : ScriptStop
+  pub cause : StopsBy left_before left_now before now stop
+  pub opened : IsSomeAnd held (HoldsFresh serials log (serials_named images))
+  pub stopped : IsStopped status
+  pub status_is : status ≡ stop_status stop
+  pub line : Adds old new (stop_line stop)
 
--- a replay has no script: a line is wrong, the source fails, or a limit is passed
-abbrev pub IsStopped : ℕ → Type 0
-IsStopped status = (status ≡ 4) ⊎ (status ≡ 5) ⊎ (status ≡ 10)
-
--- What a replay leaves of a bank whose disks were opened under these names. Where no run was made, the lines are the report
--- on the images that the bank tells of. Where one was, the first volume alone was named.
+-- what a replay leaves of a bank whose disks were opened under these names
 pub record PlaysOn {B : Type 0} (serials : B → List Serial) (sizes : B → List ℕ) (opening : B → Option (List (List Sector))) (log : B → Option (List Call)) (faults : B → ℕ → ℕ)
     (names : List Serial) (script : ScriptState) (limit : ℕ) (old new : Option (List ℕ)) (status : ℕ) (bank : B) : Type 0 where
   pub opened : B
   pub named : serials opened ≡ names
-  pub reported : IsUnstarted status → IfSome (opening bank) (λ o. IfSome (log bank) (λ l. Reports (images_told (serials opened) (sizes opened) o l) old new status))
-  pub absent : status ≡ 3 → (asks_second script.ops ≡ true) × Adds old new absent_volume_line
-  pub absent_from : status ≡ 3 → IfSome (opening bank) (λ o. IfSome (log bank) (λ l. IsStarted (images_told (serials opened) (sizes opened) o l)))
-  pub there : IsRan status → asks_second script.ops ≡ false
-  pub replays : IsRan status → Replays serials sizes opening log faults script limit old new status opened bank
+  pub replays : ReplaysBy serials sizes opening log faults script limit old new status opened bank
+
+-- an image couldn't be opened, there is no script, or the script that was read is replayed
+abbrev pub ReplayEnds : {B : Type 0} (serials : B → List Serial) (sizes : B → List ℕ) (opening : B → Option (List (List Sector))) (log : B → Option (List Call)) (faults : B → ℕ → ℕ)
+    (images : List ImageWord) (limit : ℕ) (opens_before opens_now : ℕ) (left_before left_now : Option (List ℕ)) (reads_before reads_now : ℕ) (held : Option B) (old new : Option (List ℕ)) (status : ℕ) → Type 0
+ReplayEnds serials sizes opening log faults images limit opens_before opens_now left_before left_now reads_before reads_now held old new status =
+    OpensNot serials log images opens_before opens_now held old new status
+    ⊎ Stops serials log images held left_before left_now reads_before reads_now old new status
+    ⊎ ((script : ScriptState) × TakesScript left_before left_now script × IsSomeAnd held (PlaysOn serials sizes opening log faults (serials_named images) script limit old new status))

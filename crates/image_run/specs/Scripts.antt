@@ -1,5 +1,5 @@
 -- The script of a command: the text of a source, or why there is none and the line that says so. Source: this project's own.
-use Rattle.std.specs.Prelude.{◌≡◌, ℕ, ◌+◌, true, List, ◌++◌, length, codes, Option, ⊤}
+use Rattle.std.specs.Prelude.{◌≡◌, ℕ, ◌+◌, ◌⊎◌, true, List, [], ◌∷◌, length, codes, Option, ⊤}
 use Rattle.std.specs.Fmt.{decimal}
 use Rattle.array_model.specs.Kept.{ScriptState}
 use Rattle.member_bank.specs.Faults.{Rose}
@@ -13,7 +13,9 @@ use Rattle.run_script.specs.Grammar.{lines_of}
 use Rattle.run_script.specs.Scripts.{AreRight, IsFirstWrong, orders_in, script_of}
 use Rattle.image_outside.specs.declared.source.TheConstants.{MAX_SOURCE_BYTES}
 use Rattle.image_outside.specs.Outside.{TakesAll, TakesFront}
-use Rattle.image_outside.specs.Endings.{limit_line, memory_line}
+use Rattle.image_outside.specs.Endings.{memory_line}
+use Rattle.imsm_text.specs.Text.{line}
+use Rattle.image_run.specs.Lines.{limit_line}
 use Rattle.image_run.specs.declared.script.ScriptStop.{ScriptStop}
 use Rattle.image_run.specs.declared.script.ScriptStop.TheVariants.{Memory, Read, Bytes, Line, Limit}
 
@@ -60,11 +62,11 @@ limit_word limits.Clients = codes "clients"
 
 -- the number of the line, from 1, and what is wrong with its first wrong word
 abbrev pub script_line : ℕ → LineKind → List ℕ
-script_line number kind = codes "script " ++ (decimal number ++ (codes " " ++ (kind_word kind ++ codes "\n")))
+script_line number kind = line (codes "script") (decimal number ∷ kind_word kind ∷ [])
 
 abbrev pub stop_line : ScriptStop → List ℕ
 stop_line Memory = memory_line
-stop_line Read = codes "read fault\n"
+stop_line Read = line (codes "read") (codes "fault" ∷ [])
 stop_line Bytes = limit_line (codes "bytes") (MAX_SOURCE_BYTES + 1)
 stop_line (Line number kind) = script_line number kind
 stop_line (Limit kind number) = limit_line (limit_word kind) number
@@ -75,3 +77,7 @@ stop_status Read = 5
 stop_status Bytes = 10
 stop_status (Line number kind) = 4
 stop_status (Limit kind number) = 10
+
+-- a status without a script: a line is wrong, the source fails, or a limit is passed
+abbrev pub IsStopped : ℕ → Type 0
+IsStopped status = (status ≡ 4) ⊎ (status ≡ 5) ⊎ (status ≡ 10)

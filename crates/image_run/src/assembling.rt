@@ -1,16 +1,15 @@
 //! The command `assemble`: images are opened, and what is said of them is printed.
-ghost use Rattle.std.specs.Prelude.{◌≡◌, ◌≤◌, ◌⊎◌, [], length, IfSome};
+ghost use Rattle.std.specs.Prelude.{◌≡◌, ◌≤◌, [], length, IfSome};
 ghost use Rattle.std.specs.Option.{IsSomeAnd};
-ghost use Rattle.member_bank.specs.Faults.{Rose};
 ghost use Rattle.image_outside.specs.Outside.{HasOnlyReads, IsUnused};
-ghost use Rattle.image_outside.specs.Endings.{EndsWithoutMemory};
-ghost use Rattle.image_words.specs.Words.{AreImages, serials_named};
+ghost use Rattle.image_outside.specs.Endings.{EndsIfMemory};
+ghost use Rattle.image_words.specs.Words.{AreImages};
 ghost use Rattle.image_words.specs.Args.{words_of};
-ghost use Rattle.image_verdict.specs.Images.{images_told};
-ghost use Rattle.image_verdict.specs.Endings.{IsReported, Reports, Tells};
+ghost use Rattle.image_verdict.specs.Endings.{Reports};
+ghost use Rattle.image_run.specs.Commands.{AssembleEnds};
 
-use crate::opening::{OpenFault, open_all};
-use image_outside::{Shelf, Sink, Status, end_unopened, end_without_memory};
+use crate::opening::open_images;
+use image_outside::{Shelf, Sink, Status, end_without_memory};
 use image_verdict::{print_report, read_images, report_on};
 use image_words::ImageArg;
 use imsm_base::MAX_DISKS;
@@ -22,11 +21,8 @@ fn assemble<B: Bank, K: Sink>(alloc: Global, bank: &mut B, sink: &mut K) -> Stat
     requires fresh { IfSome (B.log bank.old) (λ l. l ≡ []) }
     requires some { 1 ≤ length (B.serials bank.old) }
     ensures reads { HasOnlyReads B.log bank.new }
-    ensures status { IsReported result.0 ⊎ (result.0 ≡ 6) ⊎ (result.0 ≡ 9) }
-    ensures write_fault { result.0 ≡ 6 → Rose (K.faults_of sink.old) (K.faults_of sink.new) }
-    ensures memory { result.0 ≡ 9 → EndsWithoutMemory (K.written sink.old) (K.written sink.new) (K.faults_of sink.old) (K.faults_of sink.new) }
-    ensures reported { IsReported result.0 → IfSome (B.opening bank.new) (λ opening. IfSome (B.log bank.new) (λ log.
-        Reports (images_told (B.serials bank.new) (B.sizes bank.new) opening log) (K.written sink.old) (K.written sink.new) result.0)) }
+    ensures ends { EndsIfMemory (K.written sink.old) (K.written sink.new) (K.faults_of sink.old) (K.faults_of sink.new)
+        (Reports (B.serials bank.new) (B.sizes bank.new) (B.opening bank.new) (B.log bank.new) (K.written sink.old)) result.0 }
     ensures serials { B.serials bank.new ≡ B.serials bank.old }
 {
     match read_images(alloc, bank) {
@@ -46,17 +42,11 @@ pub(crate) fn assemble_images<H: Shelf, K: Sink>(
     requires named { AreImages (words_of images.now) }
     requires few { length images.now ≤ MAX_DISKS }
     ensures reads { IsSomeAnd (H.held shelf.new) (HasOnlyReads H.Held.log) }
-    ensures status { IsReported result.0 ⊎ (result.0 ≡ 6) ⊎ (result.0 ≡ 7) ⊎ (result.0 ≡ 9) }
-    ensures write_fault { result.0 ≡ 6 → Rose (K.faults_of sink.old) (K.faults_of sink.new) }
-    ensures open_fault { result.0 ≡ 7 → Rose (H.faults_of shelf.old) (H.faults_of shelf.new) }
-    ensures memory { result.0 ≡ 9 → EndsWithoutMemory (K.written sink.old) (K.written sink.new) (K.faults_of sink.old) (K.faults_of sink.new) }
-    ensures told { IsReported result.0 → IsSomeAnd (H.held shelf.new)
-        (Tells H.Held.serials H.Held.sizes H.Held.opening H.Held.log (serials_named (words_of images.now)) (K.written sink.old) (K.written sink.new) result.0) }
+    ensures ends { EndsIfMemory (K.written sink.old) (K.written sink.new) (K.faults_of sink.old) (K.faults_of sink.new)
+        (AssembleEnds H.Held.serials H.Held.sizes H.Held.opening H.Held.log (words_of images.now) (H.faults_of shelf.old) (H.faults_of shelf.new) (H.held shelf.new) (K.written sink.old)) result.0 }
 {
-    match open_all(alloc, images, shelf) {
-        Ok(()) => {}
-        Err(OpenFault::Memory) => return end_without_memory(sink),
-        Err(OpenFault::Failed(i)) => return end_unopened(sink, images[i].name),
+    if let Err(status) = open_images(alloc, images, shelf, sink) {
+        return status;
     }
     let mut bank = shelf.lend();
     let status = assemble(alloc, &mut bank, sink);

@@ -1,21 +1,14 @@
 //! The command: its words are read, and what they ask for is done.
-ghost use Rattle.std.specs.Prelude.{◌≡◌, ◌≤◌, ◌⊎◌, ℕ, List, length};
+ghost use Rattle.std.specs.Prelude.{◌≡◌, ◌≤◌, ℕ, List, length};
 ghost use Rattle.std.specs.Option.{IsSomeAnd};
 ghost use Rattle.imsm_base.specs.declared.bounds.TheConstants.{MAX_DISKS};
-ghost use Rattle.array_model.specs.Kept.{ScriptState};
-ghost use Rattle.member_bank.specs.Faults.{Rose};
-ghost use Rattle.image_outside.specs.Outside.{Adds, HasOnlyReads, IsUnused};
-ghost use Rattle.image_outside.specs.Endings.{EndsWithoutMemory, images_limit_line, words_line};
+ghost use Rattle.image_outside.specs.Outside.{HasOnlyReads, IsUnused};
+ghost use Rattle.image_outside.specs.Endings.{EndsIfMemory, Prints};
 ghost use Rattle.new_container.specs.declared.container.NewContainer.{NewContainer};
-ghost use Rattle.image_words.specs.Words.{ImageWord, IsAssemble, IsCommand, IsCreate, IsExamine, IsPastLimit, IsReplay, IsWithinLimit, serials_named, texts};
-ghost use Rattle.image_verdict.specs.Endings.{IsReported, Tells};
-ghost use Rattle.image_create.specs.Creates.{IsCreated};
-ghost use Rattle.image_examine.specs.Endings.{IsExamined};
-ghost use Rattle.image_replay.specs.Ends.{IsRan};
-ghost use Rattle.image_run.specs.Commands.{CreatesAs, ExaminesAs, NamesCreate, WritesFor};
-ghost use Rattle.image_run.specs.Scripts.{StopsBy, TakesScript, stop_line, stop_status};
-ghost use Rattle.image_run.specs.Replays.{IsPlayed, IsStopped, NamesReplay, PlaysOn};
-ghost use Rattle.image_run.specs.declared.script.ScriptStop.{ScriptStop as Stop};
+ghost use Rattle.image_words.specs.Words.{ImageWord, IsAssemble, IsCommand, IsCreate, IsExamine, IsPastLimit, IsReplay, IsWithinLimit, texts};
+ghost use Rattle.image_run.specs.Lines.{images_limit_line, words_line};
+ghost use Rattle.image_run.specs.Commands.{AssembleEnds, CreateEnds, ExamineEnds, NamesCreate};
+ghost use Rattle.image_run.specs.Replays.{NamesReplay, ReplayEnds};
 
 use crate::assembling::assemble_images;
 use crate::creating::create_images;
@@ -46,11 +39,9 @@ pub fn image_still<H: Shelf, S: Source, K: Sink>(
 ) -> Status
     requires unused { IsSomeAnd (H.held shelf.old) (IsUnused H.Held.serials H.Held.log) }
 
-    // No disk is written or synced but by a run, or to make a container.
+    // No disk is written or synced but by a run, or to make a container, and none without memory.
     ensures reads { (NamesReplay (texts words.now) → ⊥) → (NamesCreate (texts words.now) → ⊥) → IsSomeAnd (H.held shelf.new) (HasOnlyReads H.Held.log) }
-    ensures unwritten { (IsRan result.0 → ⊥) → (result.0 ≡ 6 → ⊥) → IsSomeAnd (H.held shelf.new) (HasOnlyReads H.Held.log) }
-    ensures wrote { (made : NewContainer) (images : List ImageWord) → IsCreate (texts words.now) made images → IsSomeAnd (H.held shelf.new) (λ bank. HasOnlyReads H.Held.log bank
-        ⊎ WritesFor H.Held.serials H.Held.sizes H.Held.log made (serials_named images) bank) }
+    ensures unwritten { result.0 ≡ 9 → IsSomeAnd (H.held shelf.new) (HasOnlyReads H.Held.log) }
 
     // The source is read by a replay alone, and nothing is opened where the words are outside the grammar or name too many
     // images.
@@ -59,38 +50,25 @@ pub fn image_still<H: Shelf, S: Source, K: Sink>(
     ensures unopened { (IsWithinLimit (texts words.now) → ⊥) → H.held shelf.new ≡ H.held shelf.old }
     ensures unopened_faults { (IsWithinLimit (texts words.now) → ⊥) → H.faults_of shelf.new ≡ H.faults_of shelf.old }
 
-    // When each status comes.
-    ensures words { result.0 ≡ 1 → IsCommand (texts words.now) → ⊥ }
-    ensures no_command { (IsCommand (texts words.now) → ⊥) → (result.0 ≡ 1) ⊎ (result.0 ≡ 6) ⊎ (result.0 ≡ 9) }
-    ensures past_limit { IsPastLimit (texts words.now) → (result.0 ≡ 10) ⊎ (result.0 ≡ 6) ⊎ (result.0 ≡ 9) }
-    ensures assembled { (images : List ImageWord) → IsAssemble (texts words.now) images → length images ≤ MAX_DISKS
-        → IsReported result.0 ⊎ (result.0 ≡ 6) ⊎ (result.0 ≡ 7) ⊎ (result.0 ≡ 9) }
-    ensures replayed { NamesReplay (texts words.now)
-        → IsPlayed result.0 ⊎ IsStopped result.0 ⊎ (result.0 ≡ 6) ⊎ (result.0 ≡ 7) ⊎ (result.0 ≡ 9) }
-    ensures examined { (images : List ImageWord) → IsExamine (texts words.now) images
-        → IsExamined result.0 ⊎ (result.0 ≡ 6) ⊎ (result.0 ≡ 7) ⊎ (result.0 ≡ 9) }
-    ensures created { (made : NewContainer) (images : List ImageWord) → IsCreate (texts words.now) made images
-        → IsCreated result.0 ⊎ (result.0 ≡ 6) ⊎ (result.0 ≡ 7) ⊎ (result.0 ≡ 9) }
-    ensures write_fault { result.0 ≡ 6 → Rose (K.faults_of sink.old) (K.faults_of sink.new) }
-    ensures open_fault { result.0 ≡ 7 → Rose (H.faults_of shelf.old) (H.faults_of shelf.new) }
-
-    // What is printed, and what it says.
-    ensures words_line { result.0 ≡ 1 → Adds (K.written sink.old) (K.written sink.new) words_line }
-    ensures limit_line { IsPastLimit (texts words.now) → result.0 ≡ 10 → Adds (K.written sink.old) (K.written sink.new) images_limit_line }
-    ensures memory { result.0 ≡ 9 → EndsWithoutMemory (K.written sink.old) (K.written sink.new) (K.faults_of sink.old) (K.faults_of sink.new) }
-    ensures told { (images : List ImageWord) → IsAssemble (texts words.now) images → IsReported result.0 → IsSomeAnd (H.held shelf.new)
-        (Tells H.Held.serials H.Held.sizes H.Held.opening H.Held.log (serials_named images) (K.written sink.old) (K.written sink.new) result.0) }
-    ensures shown { (images : List ImageWord) → IsExamine (texts words.now) images → IsExamined result.0 → IsSomeAnd (H.held shelf.new)
-        (ExaminesAs H.Held.serials H.Held.sizes H.Held.opening H.Held.log H.Held.faults_of (serials_named images) (K.written sink.old) (K.written sink.new) result.0) }
-    ensures made { (made : NewContainer) (images : List ImageWord) → IsCreate (texts words.now) made images → IsCreated result.0 → IsSomeAnd (H.held shelf.new)
-        (CreatesAs H.Held.serials H.Held.sizes H.Held.opening H.Held.log H.Held.faults_of made (serials_named images) (K.written sink.old) (K.written sink.new) result.0) }
-    ensures stopped { NamesReplay (texts words.now) → IsStopped result.0 → (stop : Stop)
-        × StopsBy (S.left source.old) (S.left source.new) (S.faults_of source.old) (S.faults_of source.new) stop
-        × (result.0 ≡ stop_status stop) × Adds (K.written sink.old) (K.written sink.new) (stop_line stop) }
-    ensures played { (limit : ℕ) (images : List ImageWord) → IsReplay (texts words.now) limit images → IsPlayed result.0
-        → (script : ScriptState) × TakesScript (S.left source.old) (S.left source.new) script
-        × IsSomeAnd (H.held shelf.new) (PlaysOn H.Held.serials H.Held.sizes H.Held.opening H.Held.log H.Held.faults_of
-        (serials_named images) script limit (K.written sink.old) (K.written sink.new) result.0) }
+    // How each command ends: what it does, what it prints, and its status. Where a line couldn't be written, that is what it
+    // would have ended with, and a front of its lines was written.
+    ensures unknown { (IsCommand (texts words.now) → ⊥) → EndsIfMemory (K.written sink.old) (K.written sink.new) (K.faults_of sink.old) (K.faults_of sink.new)
+        (Prints words_line 1 (K.written sink.old)) result.0 }
+    ensures past_limit { IsPastLimit (texts words.now) → EndsIfMemory (K.written sink.old) (K.written sink.new) (K.faults_of sink.old) (K.faults_of sink.new)
+        (Prints images_limit_line 10 (K.written sink.old)) result.0 }
+    ensures assembles { (images : List ImageWord) → IsAssemble (texts words.now) images → length images ≤ MAX_DISKS
+        → EndsIfMemory (K.written sink.old) (K.written sink.new) (K.faults_of sink.old) (K.faults_of sink.new)
+        (AssembleEnds H.Held.serials H.Held.sizes H.Held.opening H.Held.log images (H.faults_of shelf.old) (H.faults_of shelf.new) (H.held shelf.new) (K.written sink.old)) result.0 }
+    ensures examines { (images : List ImageWord) → IsExamine (texts words.now) images
+        → EndsIfMemory (K.written sink.old) (K.written sink.new) (K.faults_of sink.old) (K.faults_of sink.new)
+        (ExamineEnds H.Held.serials H.Held.sizes H.Held.opening H.Held.log H.Held.faults_of images (H.faults_of shelf.old) (H.faults_of shelf.new) (H.held shelf.new) (K.written sink.old)) result.0 }
+    ensures creates { (made : NewContainer) (images : List ImageWord) → IsCreate (texts words.now) made images
+        → EndsIfMemory (K.written sink.old) (K.written sink.new) (K.faults_of sink.old) (K.faults_of sink.new)
+        (CreateEnds H.Held.serials H.Held.sizes H.Held.opening H.Held.log H.Held.faults_of made images (H.faults_of shelf.old) (H.faults_of shelf.new) (H.held shelf.new) (K.written sink.old)) result.0 }
+    ensures replays { (limit : ℕ) (images : List ImageWord) → IsReplay (texts words.now) limit images → length images ≤ MAX_DISKS
+        → EndsIfMemory (K.written sink.old) (K.written sink.new) (K.faults_of sink.old) (K.faults_of sink.new)
+        (ReplayEnds H.Held.serials H.Held.sizes H.Held.opening H.Held.log H.Held.faults_of images limit (H.faults_of shelf.old) (H.faults_of shelf.new)
+        (S.left source.old) (S.left source.new) (S.faults_of source.old) (S.faults_of source.new) (H.held shelf.new) (K.written sink.old)) result.0 }
 {
     let command = match parse(alloc, words) {
         Ok(command) => command,
@@ -119,11 +97,9 @@ pub fn image_main<H: Shelf, S: Source, K: Sink>(
 ) -> Status
     requires unused { IsSomeAnd (H.held shelf.old) (IsUnused H.Held.serials H.Held.log) }
 
-    // No disk is written or synced but by a run, or to make a container.
+    // No disk is written or synced but by a run, or to make a container, and none without memory.
     ensures reads { (NamesReplay (texts words.now) → ⊥) → (NamesCreate (texts words.now) → ⊥) → IsSomeAnd (H.held shelf.new) (HasOnlyReads H.Held.log) }
-    ensures unwritten { (IsRan result.0 → ⊥) → (result.0 ≡ 6 → ⊥) → IsSomeAnd (H.held shelf.new) (HasOnlyReads H.Held.log) }
-    ensures wrote { (made : NewContainer) (images : List ImageWord) → IsCreate (texts words.now) made images → IsSomeAnd (H.held shelf.new) (λ bank. HasOnlyReads H.Held.log bank
-        ⊎ WritesFor H.Held.serials H.Held.sizes H.Held.log made (serials_named images) bank) }
+    ensures unwritten { result.0 ≡ 9 → IsSomeAnd (H.held shelf.new) (HasOnlyReads H.Held.log) }
 
     // The source is read by a replay alone, and nothing is opened where the words are outside the grammar or name too many
     // images.
@@ -132,38 +108,25 @@ pub fn image_main<H: Shelf, S: Source, K: Sink>(
     ensures unopened { (IsWithinLimit (texts words.now) → ⊥) → H.held shelf.new ≡ H.held shelf.old }
     ensures unopened_faults { (IsWithinLimit (texts words.now) → ⊥) → H.faults_of shelf.new ≡ H.faults_of shelf.old }
 
-    // When each status comes.
-    ensures words { result.0 ≡ 1 → IsCommand (texts words.now) → ⊥ }
-    ensures no_command { (IsCommand (texts words.now) → ⊥) → (result.0 ≡ 1) ⊎ (result.0 ≡ 6) ⊎ (result.0 ≡ 9) }
-    ensures past_limit { IsPastLimit (texts words.now) → (result.0 ≡ 10) ⊎ (result.0 ≡ 6) ⊎ (result.0 ≡ 9) }
-    ensures assembled { (images : List ImageWord) → IsAssemble (texts words.now) images → length images ≤ MAX_DISKS
-        → IsReported result.0 ⊎ (result.0 ≡ 6) ⊎ (result.0 ≡ 7) ⊎ (result.0 ≡ 9) }
-    ensures replayed { NamesReplay (texts words.now)
-        → IsPlayed result.0 ⊎ IsStopped result.0 ⊎ (result.0 ≡ 6) ⊎ (result.0 ≡ 7) ⊎ (result.0 ≡ 9) }
-    ensures examined { (images : List ImageWord) → IsExamine (texts words.now) images
-        → IsExamined result.0 ⊎ (result.0 ≡ 6) ⊎ (result.0 ≡ 7) ⊎ (result.0 ≡ 9) }
-    ensures created { (made : NewContainer) (images : List ImageWord) → IsCreate (texts words.now) made images
-        → IsCreated result.0 ⊎ (result.0 ≡ 6) ⊎ (result.0 ≡ 7) ⊎ (result.0 ≡ 9) }
-    ensures write_fault { result.0 ≡ 6 → Rose (K.faults_of sink.old) (K.faults_of sink.new) }
-    ensures open_fault { result.0 ≡ 7 → Rose (H.faults_of shelf.old) (H.faults_of shelf.new) }
-
-    // What is printed, and what it says.
-    ensures words_line { result.0 ≡ 1 → Adds (K.written sink.old) (K.written sink.new) words_line }
-    ensures limit_line { IsPastLimit (texts words.now) → result.0 ≡ 10 → Adds (K.written sink.old) (K.written sink.new) images_limit_line }
-    ensures memory { result.0 ≡ 9 → EndsWithoutMemory (K.written sink.old) (K.written sink.new) (K.faults_of sink.old) (K.faults_of sink.new) }
-    ensures told { (images : List ImageWord) → IsAssemble (texts words.now) images → IsReported result.0 → IsSomeAnd (H.held shelf.new)
-        (Tells H.Held.serials H.Held.sizes H.Held.opening H.Held.log (serials_named images) (K.written sink.old) (K.written sink.new) result.0) }
-    ensures shown { (images : List ImageWord) → IsExamine (texts words.now) images → IsExamined result.0 → IsSomeAnd (H.held shelf.new)
-        (ExaminesAs H.Held.serials H.Held.sizes H.Held.opening H.Held.log H.Held.faults_of (serials_named images) (K.written sink.old) (K.written sink.new) result.0) }
-    ensures made { (made : NewContainer) (images : List ImageWord) → IsCreate (texts words.now) made images → IsCreated result.0 → IsSomeAnd (H.held shelf.new)
-        (CreatesAs H.Held.serials H.Held.sizes H.Held.opening H.Held.log H.Held.faults_of made (serials_named images) (K.written sink.old) (K.written sink.new) result.0) }
-    ensures stopped { NamesReplay (texts words.now) → IsStopped result.0 → (stop : Stop)
-        × StopsBy (S.left source.old) (S.left source.new) (S.faults_of source.old) (S.faults_of source.new) stop
-        × (result.0 ≡ stop_status stop) × Adds (K.written sink.old) (K.written sink.new) (stop_line stop) }
-    ensures played { (limit : ℕ) (images : List ImageWord) → IsReplay (texts words.now) limit images → IsPlayed result.0
-        → (script : ScriptState) × TakesScript (S.left source.old) (S.left source.new) script
-        × IsSomeAnd (H.held shelf.new) (PlaysOn H.Held.serials H.Held.sizes H.Held.opening H.Held.log H.Held.faults_of
-        (serials_named images) script limit (K.written sink.old) (K.written sink.new) result.0) }
+    // How each command ends: what it does, what it prints, and its status. Where a line couldn't be written, that is what it
+    // would have ended with, and a front of its lines was written.
+    ensures unknown { (IsCommand (texts words.now) → ⊥) → EndsIfMemory (K.written sink.old) (K.written sink.new) (K.faults_of sink.old) (K.faults_of sink.new)
+        (Prints words_line 1 (K.written sink.old)) result.0 }
+    ensures past_limit { IsPastLimit (texts words.now) → EndsIfMemory (K.written sink.old) (K.written sink.new) (K.faults_of sink.old) (K.faults_of sink.new)
+        (Prints images_limit_line 10 (K.written sink.old)) result.0 }
+    ensures assembles { (images : List ImageWord) → IsAssemble (texts words.now) images → length images ≤ MAX_DISKS
+        → EndsIfMemory (K.written sink.old) (K.written sink.new) (K.faults_of sink.old) (K.faults_of sink.new)
+        (AssembleEnds H.Held.serials H.Held.sizes H.Held.opening H.Held.log images (H.faults_of shelf.old) (H.faults_of shelf.new) (H.held shelf.new) (K.written sink.old)) result.0 }
+    ensures examines { (images : List ImageWord) → IsExamine (texts words.now) images
+        → EndsIfMemory (K.written sink.old) (K.written sink.new) (K.faults_of sink.old) (K.faults_of sink.new)
+        (ExamineEnds H.Held.serials H.Held.sizes H.Held.opening H.Held.log H.Held.faults_of images (H.faults_of shelf.old) (H.faults_of shelf.new) (H.held shelf.new) (K.written sink.old)) result.0 }
+    ensures creates { (made : NewContainer) (images : List ImageWord) → IsCreate (texts words.now) made images
+        → EndsIfMemory (K.written sink.old) (K.written sink.new) (K.faults_of sink.old) (K.faults_of sink.new)
+        (CreateEnds H.Held.serials H.Held.sizes H.Held.opening H.Held.log H.Held.faults_of made images (H.faults_of shelf.old) (H.faults_of shelf.new) (H.held shelf.new) (K.written sink.old)) result.0 }
+    ensures replays { (limit : ℕ) (images : List ImageWord) → IsReplay (texts words.now) limit images → length images ≤ MAX_DISKS
+        → EndsIfMemory (K.written sink.old) (K.written sink.new) (K.faults_of sink.old) (K.faults_of sink.new)
+        (ReplayEnds H.Held.serials H.Held.sizes H.Held.opening H.Held.log H.Held.faults_of images limit (H.faults_of shelf.old) (H.faults_of shelf.new)
+        (S.left source.old) (S.left source.new) (S.faults_of source.old) (S.faults_of source.new) (H.held shelf.new) (K.written sink.old)) result.0 }
 {
     image_still(alloc, words, shelf, source, sink)
 }

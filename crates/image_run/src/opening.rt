@@ -1,20 +1,24 @@
 //! The images of a command are opened on a shelf.
-ghost use Rattle.std.specs.Prelude.{◌≡◌, ℕ, ◌<◌, ◌≤◌, [], true, length, map, take, IsSome, IfSome, OnOk, Err};
+ghost use Rattle.std.specs.Prelude.{◌≡◌, ℕ, ◌<◌, ◌≤◌, [], true, length, map, take, IsSome, IfSome, IfErr, OnOk, Err};
 ghost use Rattle.std.specs.List.{AllByRecursion};
 ghost use Rattle.std.specs.Option.{IsSomeAnd};
 ghost use Rattle.member_bank.specs.Faults.{Rose};
-ghost use Rattle.image_outside.specs.Outside.{IsUnused, HoldsFresh};
+ghost use Rattle.image_outside.specs.Outside.{HoldsFresh, IsUnused};
+ghost use Rattle.image_outside.specs.Endings.{EndsIfMemory};
 ghost use Rattle.image_words.specs.Words.{IsImageWord, are_distinct, serials_named};
 ghost use Rattle.image_words.specs.Args.{words_of};
+ghost use Rattle.image_run.specs.Openings.{OpensNot};
 
-use image_outside::{Shelf, ShelfFault};
+use image_lines::end_line;
+use image_outside::{Shelf, ShelfFault, Sink, Status, end_without_memory};
 use image_words::ImageArg;
 use imsm_base::MAX_DISKS;
+use imsm_text::Word;
 use std::alloc::Global;
 
 /// Why not all images were opened.
 #[derive(Clone, Copy, Debug, PartialEq, Eq)]
-pub enum OpenFault {
+enum OpenFault {
     /// There was no memory.
     Memory,
     /// The image of this number, counted from 0, couldn't be opened.
@@ -22,7 +26,7 @@ pub enum OpenFault {
 }
 
 /// Opens images in their order.
-pub fn open_all<H: Shelf>(
+fn open_all<H: Shelf>(
     alloc: Global,
     images: &[ImageArg<'_>],
     shelf: &mut H,
@@ -33,7 +37,8 @@ pub fn open_all<H: Shelf>(
     requires distinct { are_distinct (words_of images.now) ≡ true }
     ensures fresh { (opened : ℕ) × IsSomeAnd (H.held shelf.new) (HoldsFresh H.Held.serials H.Held.log (serials_named (take opened (words_of images.now)))) }
     ensures ok { OnOk result (IsSomeAnd (H.held shelf.new) (HoldsFresh H.Held.serials H.Held.log (serials_named (words_of images.now)))) }
-    ensures failed { (i : ℕ) → result ≡ Err (OpenFault.Failed i) → (i < length images.now) × Rose (H.faults_of shelf.old) (H.faults_of shelf.new) }
+    ensures failed { (i : ℕ) → result ≡ Err (OpenFault.Failed i) → (i < length images.now) × Rose (H.faults_of shelf.old) (H.faults_of shelf.new)
+        × IsSomeAnd (H.held shelf.new) (HoldsFresh H.Held.serials H.Held.log (serials_named (take i (words_of images.now)))) }
 {
     for (i, image) in images.iter().enumerate() {
         match shelf.open(alloc, image.serial(), image.file) {
@@ -43,4 +48,31 @@ pub fn open_all<H: Shelf>(
         }
     }
     Ok(())
+}
+
+/// Opens the images of a command in their order, or ends it where one can't be opened.
+pub fn open_images<H: Shelf, K: Sink>(
+    alloc: Global,
+    images: &[ImageArg<'_>],
+    shelf: &mut H,
+    sink: &mut K,
+) -> Result<(), Status>
+    requires unused { IsSomeAnd (H.held shelf.old) (IsUnused H.Held.serials H.Held.log) }
+    requires few { length images.now ≤ MAX_DISKS }
+    requires each { AllByRecursion IsImageWord (words_of images.now) }
+    requires distinct { are_distinct (words_of images.now) ≡ true }
+    ensures fresh { (opened : ℕ) × IsSomeAnd (H.held shelf.new) (HoldsFresh H.Held.serials H.Held.log (serials_named (take opened (words_of images.now)))) }
+    ensures ok { OnOk result (IsSomeAnd (H.held shelf.new) (HoldsFresh H.Held.serials H.Held.log (serials_named (words_of images.now)))) }
+    ensures silent { OnOk result (sink.new ≡ sink.old) }
+    ensures ends { IfErr result (λ status. EndsIfMemory (K.written sink.old) (K.written sink.new) (K.faults_of sink.old) (K.faults_of sink.new)
+        (OpensNot H.Held.serials H.Held.log (words_of images.now) (H.faults_of shelf.old) (H.faults_of shelf.new) (H.held shelf.new) (K.written sink.old)) status.0) }
+{
+    match open_all(alloc, images, shelf) {
+        Ok(()) => Ok(()),
+        Err(OpenFault::Memory) => Err(end_without_memory(sink)),
+        Err(OpenFault::Failed(i)) => {
+            let name = Word::Plain(images[i].name.as_bytes());
+            Err(end_line(sink, b"open", &[name], Status::OPEN_FAULT))
+        }
+    }
 }

@@ -1,17 +1,14 @@
 //! The script of a command is read from its source.
-ghost use Rattle.std.specs.Prelude.{◌≡◌, ◌≢◌, ◌⊎◌, IfOk, IfErr, OnOk, OnErr};
-ghost use Rattle.member_bank.specs.Faults.{Rose};
+ghost use Rattle.std.specs.Prelude.{◌≡◌, IfOk, IfErr};
 ghost use Rattle.run_script.specs.Within.{IsWithin};
-ghost use Rattle.image_outside.specs.Outside.{Adds, TakesAll};
-ghost use Rattle.image_outside.specs.Endings.{EndsWithoutMemory, limit_line};
-ghost use Rattle.image_run.specs.Scripts.{IsScript, StopsBy, TakesScript, kind_word, limit_word, script_line, stop_line, stop_status};
+ghost use Rattle.image_outside.specs.Outside.{TakesAll};
+ghost use Rattle.image_outside.specs.Endings.{EndsIfMemory, Prints};
+ghost use Rattle.image_run.specs.Scripts.{IsScript, IsStopped, StopsBy, TakesScript, kind_word, limit_word, stop_line, stop_status};
 
 use array_model::Script;
-use image_outside::{
-    Sink, Source, SourceFault, Status, end, end_without_memory, read_all, write_all,
-};
-use itoa::Buffer;
-use member_bank::Failed;
+use image_lines::end_line;
+use image_outside::{Sink, Source, SourceFault, Status, end, end_without_memory, read_all};
+use imsm_text::Word;
 use run_script::{LimitKind, LineKind, ScriptFault, parse_script};
 use std::alloc::Global;
 
@@ -76,59 +73,22 @@ fn limit_word(kind: LimitKind) -> &'static [u8]
     }
 }
 
-/// Writes what is wrong with a line. Takes no memory.
-fn write_line<K: Sink>(sink: &mut K, number: u64, kind: LineKind) -> Result<(), Failed>
-    ensures ok { OnOk result (Adds (K.written sink.old) (K.written sink.new) (script_line number kind)) }
-    ensures err { OnErr result (Rose (K.faults_of sink.old) (K.faults_of sink.new)) }
-{
-    write_all(sink, b"script ")?;
-    write_all(sink, Buffer::new().format(number).as_bytes())?;
-    write_all(sink, b" ")?;
-    write_all(sink, kind_word(kind))?;
-    write_all(sink, b"\n")
-}
-
-/// Writes that a limit is passed. Takes no memory.
-fn write_limit<K: Sink>(sink: &mut K, kind: LimitKind, number: u64) -> Result<(), Failed>
-    ensures ok { OnOk result (Adds (K.written sink.old) (K.written sink.new) (limit_line (limit_word kind) number)) }
-    ensures err { OnErr result (Rose (K.faults_of sink.old) (K.faults_of sink.new)) }
-{
-    write_all(sink, b"limit ")?;
-    write_all(sink, limit_word(kind))?;
-    write_all(sink, b" ")?;
-    write_all(sink, Buffer::new().format(number).as_bytes())?;
-    write_all(sink, b"\n")
-}
-
-/// The status where lines were written, or that of a write fault.
-fn status_after(written: Result<(), Failed>, status: Status) -> Status
-    ensures ok { OnOk written (result ≡ status) }
-    ensures err { OnErr written (result.0 ≡ 6) }
-{
-    match written {
-        Ok(()) => status,
-        Err(Failed) => Status::WRITE_FAULT,
-    }
-}
-
 /// Ends where there is no script.
 pub(crate) fn end_stopped<K: Sink>(sink: &mut K, stop: ScriptStop) -> Status
-    ensures either { (result.0 ≡ stop_status stop) ⊎ (result.0 ≡ 6) }
-    ensures lines { result.0 ≡ stop_status stop → result.0 ≢ 9 → Adds (K.written sink.old) (K.written sink.new) (stop_line stop) }
-    ensures memory { result.0 ≡ 9 → EndsWithoutMemory (K.written sink.old) (K.written sink.new) (K.faults_of sink.old) (K.faults_of sink.new) }
-    ensures fault { result.0 ≡ 6 → Rose (K.faults_of sink.old) (K.faults_of sink.new) }
+    ensures { EndsIfMemory (K.written sink.old) (K.written sink.new) (K.faults_of sink.old) (K.faults_of sink.new)
+        (λ told status. IsStopped status × Prints (stop_line stop) (stop_status stop) (K.written sink.old) told status) result.0 }
 {
     match stop {
         ScriptStop::Memory => end_without_memory(sink),
         ScriptStop::Read => end(sink, b"read fault\n", Status::READ_FAULT),
         ScriptStop::Bytes => end(sink, b"limit bytes 8388609\n", Status::LIMIT),
-        ScriptStop::Line(number, kind) => status_after(
-            write_line(sink, number, kind),
-            Status::SCRIPT,
-        ),
-        ScriptStop::Limit(kind, number) => status_after(
-            write_limit(sink, kind, number),
-            Status::LIMIT,
-        ),
+        ScriptStop::Line(number, kind) => {
+            let words = [Word::Number(number), Word::Plain(kind_word(kind))];
+            end_line(sink, b"script", &words, Status::SCRIPT)
+        }
+        ScriptStop::Limit(kind, number) => {
+            let words = [Word::Plain(limit_word(kind)), Word::Number(number)];
+            end_line(sink, b"limit", &words, Status::LIMIT)
+        }
     }
 }

@@ -7,13 +7,20 @@ use crate::bytes::digits_of;
 use itoa::Buffer;
 use std::alloc::AllocError;
 
+/// A number as eight hexadecimal digits.
+pub fn digits_of_number(value: u32) -> [u8; 8]
+    ensures { result ≡ hex_number value }
+{
+    let mut digits = [0; 8];
+    hex::encode_to_slice(value.to_be_bytes(), &mut digits).unwrap();
+    digits
+}
+
 /// Appends a number as eight hexadecimal digits.
 pub fn push_hex_number(out: &mut Vec<u8>, value: u32) -> Result<(), AllocError>
     ensures { OnOk result (out.new.items ≡ out.old.items ++ hex_number value) }
 {
-    let mut digits = [0; 8];
-    hex::encode_to_slice(value.to_be_bytes(), &mut digits).unwrap();
-    out.extend_from_slice(&digits)
+    out.extend_from_slice(&digits_of_number(value))
 }
 
 /// Appends a number as decimal digits.

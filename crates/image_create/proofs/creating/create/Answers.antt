@@ -1,18 +1,21 @@
-use Rattle.std.proofs.Common.{◌≡◌, ◌∙◌, ◌+◌, ◌≤◌, ◌++◌, ℕ, List, [], All, length, Option, None, Some, IfSome, ap, subst, sym, refl, inr}
+use Rattle.std.proofs.Common.{◌≡◌, ◌∙◌, ◌+◌, ◌≤◌, ◌++◌, ℕ, List, [], All, length, Option, None, Some, IfSome, ap, subst, sym, refl}
+use Rattle.std.specs.Prelude.{slice_index}
 use Rattle.imsm_base.specs.declared.bounds.TheConstants.{METADATA_SECTORS}
 use Rattle.imsm_base.specs.Layout.{Block, family_of}
 use Rattle.imsm_base.proofs.Joined.{block_in-spelled}
+use Rattle.imsm_buffer.specs.Buffer.{parts_of}
 use Rattle.device_log.specs.Log.{Call}
 use Rattle.member_bank.specs.Told.{LogsAll}
 use Rattle.new_container.specs.Created.{CanCreate, created_block, created_bytes}
 use Rattle.new_container.specs.Fits.{container_fits, total_rows}
 use Rattle.image_outside.specs.Outside.{Adds}
-use Rattle.image_lines.specs.Lines.{created_line}
+use Rattle.image_outside.proofs.Ended.{ends_so, ends_with_memory}
+use Rattle.image_lines.specs.Lines.{failed_member_line}
 use Rattle.image_create.specs.Calls.{create_calls}
-use Rattle.image_create.specs.Creates.{StopsBy, disks_of}
+use Rattle.image_create.specs.Creates.{CreatesBy, StopsBy, created_line, disks_of, small_line}
 use Rattle.image_create.specs.Laid.{LaysDown}
 use Rattle.image_create.specs.Room.{IsFirstBelow}
-use Rattle.image_create.specs.Stops.{AreMade}
+use Rattle.image_create.proofs.Ending.{created_by, failed_by, laid_or, of_same, refused_by}
 use Rattle.image_create.proofs.Listed.{can_create}
 use Rattle.image_create.proofs.creating.create.Goals as goal
 
@@ -30,20 +33,30 @@ total_rows-rows-requires g c =
     let many : c.from.result ≡ length serials = c.from.ensures ∙ c.disks.ensures.count ∙ sym c.disks.ensures.named in
     ap (container_fits c.args.made.now) many ∙ c.requires.fits
 
-pub returns-in-Some-clause-refused : goal.returns-in-Some-clause-refused
-returns-in-Some-clause-refused g c is =
-    let serials = g.B.Bank.serials c.args.bank.now in
-    let sizes = g.B.Bank.sizes c.args.bank.now in
+pub returns-in-Some-clause-ends : goal.returns-in-Some-clause-ends
+returns-in-Some-clause-ends g c =
+    let B = g.B.Bank in
+    let told = g.K.Sink.written in
+    let faults = g.K.Sink.faults_of in
+    let serials = B.serials c.args.bank.now in
+    let sizes = B.sizes c.args.bank.now in
     let many : c.from.result ≡ length serials = c.from.ensures ∙ c.disks.ensures.count ∙ sym c.disks.ensures.named in
     let rows : c.total_rows-rows.result ≡ total_rows c.args.made.now (length serials) = c.total_rows-rows.ensures.rows ∙ ap (total_rows c.args.made.now) many in
-    let line = c.end_small.ensures.line is in
-    record {
+    let small = c.end_small.ensures in
+    let outcome : Option (List ℕ) → ℕ → Type 0 =
+    λ full status. CreatesBy B.serials B.sizes B.opening B.log B.faults_of c.args.made.now (told c.args.sink.now) full status c.args.bank.now c.args.bank.now in
+    ends_with_memory (told c.args.sink.now) (told c.end_small.new.sink) (faults c.args.sink.now) (faults c.end_small.new.sink) outcome c.end_small.result.0
+    (ends_so (told c.args.sink.now) (told c.end_small.new.sink) (faults c.args.sink.now) (faults c.end_small.new.sink) outcome (small_line small.0 (slice_index sizes c.in-Some.d.0)) 3 c.end_small.result.0
+    (λ full adds.
+    refused_by c.args.bank.now
+    (record {
       d = c.in-Some.d.0;
-      serial = line.0;
+      serial = small.0;
       first = subst (λ (n : ℕ). IsFirstBelow (n + METADATA_SECTORS) sizes c.in-Some.d.0) rows c.in-Some.ensures;
-      named = line.1;
-      line = line.2;
-    }
+      named = small.1;
+      line = adds;
+    }))
+    small.2)
 
 pub new_block-requires : goal.new_block-requires
 new_block-requires g c =
@@ -56,61 +69,43 @@ new_block-requires g c =
     subst (CanCreate c.args.made.now) (sym (c.as_slice.ensures.value ∙ c.in-Ok.ensures))
     (can_create c.args.made.now serials sizes c.disks.ensures.named c.requires.fits c.disks.ensures.distinct room)
 
-pub returns-in-Ok-new_block-clause-room : goal.returns-in-Ok-new_block-clause-room
-returns-in-Ok-new_block-clause-room g c is =
-    let serials = g.B.Bank.serials c.args.bank.now in
-    let sizes = g.B.Bank.sizes c.args.bank.now in
-    let many : c.from.result ≡ length serials = c.from.ensures ∙ c.disks.ensures.count ∙ sym c.disks.ensures.named in
-    let rows : c.total_rows-rows.result ≡ total_rows c.args.made.now (length serials) = c.total_rows-rows.ensures.rows ∙ ap (total_rows c.args.made.now) many in
-    can_create c.args.made.now serials sizes c.disks.ensures.named c.requires.fits c.disks.ensures.distinct
-    (subst (λ (r : ℕ). All (λ n. r + METADATA_SECTORS ≤ n) sizes) rows c.in_default.ensures)
-
-pub returns-in-Ok-new_block-clause-created : goal.returns-in-Ok-new_block-clause-created
-returns-in-Ok-new_block-clause-created g c is =
+pub returns-in-Ok-new_block-clause-ends : goal.returns-in-Ok-new_block-clause-ends
+returns-in-Ok-new_block-clause-ends g c =
     let B = g.B.Bank in
+    let told = g.K.Sink.written in
+    let faults = g.K.Sink.faults_of in
     let made = c.args.made.now in
     let serials = B.serials c.args.bank.now in
     let sizes = B.sizes c.args.bank.now in
+    let disks = disks_of serials sizes in
+    let after = c.lay_down-laid.new.bank in
+    let log = B.log c.args.bank.now in
     let many : c.from.result ≡ length serials = c.from.ensures ∙ c.disks.ensures.count ∙ sym c.disks.ensures.named in
     let rows : c.total_rows-rows.result ≡ total_rows made (length serials) = c.total_rows-rows.ensures.rows ∙ ap (total_rows made) many in
-    let given : c.as_slice.result.now ≡ disks_of serials sizes = c.as_slice.ensures.value ∙ c.in-Ok.ensures in
-    let bytes : c.in-Ok-new_block.block.bytes ≡ created_bytes made (disks_of serials sizes) = c.in-Ok-new_block.ensures.bytes ∙ ap (created_bytes made) given in
+    let given : c.as_slice.result.now ≡ disks = c.as_slice.ensures.value ∙ c.in-Ok.ensures in
+    let bytes : c.in-Ok-new_block.block.bytes ≡ created_bytes made disks = c.in-Ok-new_block.ensures.bytes ∙ ap (created_bytes made) given in
     let block = block_in-spelled c.in-Ok-new_block.block.bytes (created_block made c.as_slice.result.now) c.in-Ok-new_block.ensures.whole.spells ∙ ap (created_block made) given in
-    record {
-      calls = subst (λ (r : ℕ). IfSome (B.log c.make.new.bank) (λ l. l ≡ create_calls sizes r (created_bytes made (disks_of serials sizes)))) rows
-          (subst (λ (b : List ℕ). IfSome (B.log c.make.new.bank) (λ l. l ≡ create_calls sizes c.total_rows-rows.result b)) bytes
-          (alone (B.log c.args.bank.now) (B.log c.make.new.bank) _ c.requires.fresh (c.make.ensures.calls is)));
-      laid = subst (λ (r : ℕ). LaysDown sizes r (created_bytes made (disks_of serials sizes)) (B.opening c.make.new.bank) (B.log c.args.bank.now) (B.log c.make.new.bank)) rows
-          (subst (λ (b : List ℕ). LaysDown sizes c.total_rows-rows.result b (B.opening c.make.new.bank) (B.log c.args.bank.now) (B.log c.make.new.bank)) bytes (c.make.ensures.laid is));
-      line = subst (λ (b : Block). Adds (g.K.Sink.written c.args.sink.now) (g.K.Sink.written c.make.new.sink) (created_line (family_of b))) block (c.make.ensures.line is);
-    }
-
-pub returns-in-Ok-new_block-clause-failed : goal.returns-in-Ok-new_block-clause-failed
-returns-in-Ok-new_block-clause-failed g c is =
-    let B = g.B.Bank in
-    let made = c.args.made.now in
-    let serials = B.serials c.args.bank.now in
-    let sizes = B.sizes c.args.bank.now in
-    let many : c.from.result ≡ length serials = c.from.ensures ∙ c.disks.ensures.count ∙ sym c.disks.ensures.named in
-    let rows : c.total_rows-rows.result ≡ total_rows made (length serials) = c.total_rows-rows.ensures.rows ∙ ap (total_rows made) many in
-    let given : c.as_slice.result.now ≡ disks_of serials sizes = c.as_slice.ensures.value ∙ c.in-Ok.ensures in
-    let bytes : c.in-Ok-new_block.block.bytes ≡ created_bytes made (disks_of serials sizes) = c.in-Ok-new_block.ensures.bytes ∙ ap (created_bytes made) given in
-    let by : ℕ → List ℕ → Type 0 = λ r b. StopsBy B.serials B.log B.faults_of (create_calls sizes r b) (g.K.Sink.written c.args.sink.now) (g.K.Sink.written c.make.new.sink) c.args.bank.now c.make.new.bank in
-    subst (λ (r : ℕ). by r (created_bytes made (disks_of serials sizes))) rows (subst (by c.total_rows-rows.result) bytes (c.make.ensures.failed is))
-
-pub returns-in-Ok-new_block-clause-made : goal.returns-in-Ok-new_block-clause-made
-returns-in-Ok-new_block-clause-made g c =
-    let B = g.B.Bank in
-    let made = c.args.made.now in
-    let serials = B.serials c.args.bank.now in
-    let sizes = B.sizes c.args.bank.now in
-    let many : c.from.result ≡ length serials = c.from.ensures ∙ c.disks.ensures.count ∙ sym c.disks.ensures.named in
-    let rows : c.total_rows-rows.result ≡ total_rows made (length serials) = c.total_rows-rows.ensures.rows ∙ ap (total_rows made) many in
-    let given : c.as_slice.result.now ≡ disks_of serials sizes = c.as_slice.ensures.value ∙ c.in-Ok.ensures in
-    let bytes : c.in-Ok-new_block.block.bytes ≡ created_bytes made (disks_of serials sizes) = c.in-Ok-new_block.ensures.bytes ∙ ap (created_bytes made) given in
-    let are : ℕ → List ℕ → Type 0 = λ r b. AreMade (B.log c.args.bank.now) (B.log c.make.new.bank) (create_calls sizes r b) in
-    inr (record {
-      can = can_create made serials sizes c.disks.ensures.named c.requires.fits c.disks.ensures.distinct
-          (subst (λ (r : ℕ). All (λ n. r + METADATA_SECTORS ≤ n) sizes) rows c.in_default.ensures);
-      calls = subst (λ (r : ℕ). are r (created_bytes made (disks_of serials sizes))) rows (subst (are c.total_rows-rows.result) bytes c.make.ensures.made);
-    })
+    let can = can_create made serials sizes c.disks.ensures.named c.requires.fits c.disks.ensures.distinct
+    (subst (λ (r : ℕ). All (λ n. r + METADATA_SECTORS ≤ n) sizes) rows c.in_default.ensures) in
+    let outcome : Option (List ℕ) → ℕ → Type 0 =
+    λ full status. CreatesBy B.serials B.sizes B.opening B.log B.faults_of made (told c.args.sink.now) full status c.args.bank.now after in
+    let goes = ends_so (told c.args.sink.now) (told c.end_laid.new.sink) (faults c.args.sink.now) (faults c.end_laid.new.sink) outcome in
+    ends_with_memory (told c.args.sink.now) (told c.end_laid.new.sink) (faults c.args.sink.now) (faults c.end_laid.new.sink) outcome c.end_laid.result.0
+    (laid_or c.lay_down-laid.result c.lay_down-laid.ensures.ok c.lay_down-laid.ensures.laid c.end_laid.ensures.created c.lay_down-laid.ensures.err c.lay_down-laid.ensures.cause c.end_laid.ensures.failed
+    (λ logs laid prints.
+    goes (created_line (family_of (parts_of c.in-Ok-new_block.block))) 0 c.end_laid.result.0
+    (λ full adds.
+    created_by c.args.bank.now after can
+    (record {
+      calls = of_same (λ r b. IfSome (B.log after) (λ l. l ≡ create_calls sizes r b)) rows bytes (alone log (B.log after) _ c.requires.fresh logs);
+      laid = of_same (λ r b. LaysDown sizes r b (B.opening after) log (B.log after)) rows bytes laid;
+      line = subst (λ (b : Block). Adds (told c.args.sink.now) full (created_line (family_of b))) block adds;
+    }))
+    prints)
+    (λ d stops cause tells.
+    goes (failed_member_line tells.0) 13 c.end_laid.result.0
+    (λ full adds.
+    failed_by c.args.bank.now after can
+    (of_same (λ r b. StopsBy B.serials B.log B.faults_of (create_calls sizes r b) (told c.args.sink.now) full c.args.bank.now after) rows bytes
+    (record { d = d.0; serial = tells.0; named = tells.1; cause = cause; stops = stops; line = adds })))
+    tells.2))

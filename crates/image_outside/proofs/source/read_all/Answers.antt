@@ -1,7 +1,8 @@
 use Rattle.std.proofs.Common.{ℕ, List, ◌++◌, length, take, refl, subst, arith, length-append, length-take}
 use Rattle.std.proofs.lemmas.Grind.{common_steps}
 use Rattle.image_outside.specs.Outside.{Takes, IsAtEnd}
-use Rattle.image_outside.proofs.Taken.{on_err, takes_all, takes_more}
+use Rattle.image_outside.proofs.Taken.{takes_all, takes_more}
+use Rattle.image_outside.proofs.Written.{on_err}
 use Rattle.image_outside.proofs.source.read_all.Goals as goal
 
 pub returns-then-count-eq0-clause-all : goal.returns-then-count-eq0-clause-all
