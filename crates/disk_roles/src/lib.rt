@@ -1,0 +1,14 @@
+//! What a container's newest metadata block, and what was found on the disks that are there, say of each disk: which
+//! expected disks lack and why, and the role of each disk that is there.
+#![tactic(auto)]
+
+mod arrived;
+mod missing;
+mod record;
+mod role;
+#[cfg(test)]
+mod tests;
+
+pub use arrived::{Arrived, Holds};
+pub use missing::{Lack, Missing, missing_of};
+pub use role::{DiskRole, role_of};
