@@ -1,0 +1,4 @@
+pub mod Lists
+pub mod Leading
+pub mod Paired
+pub mod Exclusive
