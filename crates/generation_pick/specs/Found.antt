@@ -1,5 +1,6 @@
 -- The blocks that were found on disks: the newest one, and lists that are of no one container.
--- Source: load_imsm_mpb and getinfo_super of super-intel.c choose by generation; families and twins are this project's own.
+-- Source: super-intel.c chooses among the blocks of one family by their generations (imsm_thunderdome); families and
+-- twins as refusals are this project's own.
 use Rattle.std.specs.Prelude.{◌≡◌, ◌≢◌, ℕ, ◌≤◌, List, ◌∷◌, ◌++◌, All, Contains, slice_get, Some}
 use Rattle.imsm_base.specs.Layout.{family_of, generation_of}
 use Rattle.imsm_codec.specs.Mpb.{block_bytes, block_of}
