@@ -6,11 +6,7 @@ use Rattle.std.proofs.lemmas.Grind.{flat_map-append}
 use Rattle.imsm_base.specs.Fields.{Part}
 use Rattle.imsm_base.specs.Layout.{disk_count_of}
 use Rattle.imsm_base.specs.Parts.{block_in}
-use Rattle.imsm_base.proofs.Apart.{length-disks_in}
-
-pub table_count : (bytes : List ℕ) → length (block_in bytes).disks ≡ disk_count_of (block_in bytes)
-unfolding block_in
-table_count bytes = length-disks_in _ _
+use Rattle.imsm_codec.proofs.Found.{disks_counted}
 
 -- what is made of one record more
 pub one_more : {X : Type 0} (f : Part → List X) (disks : List Part) (k : ℕ) (found more : List X) → k < length disks → found ≡ flat_map f (take k disks) → more ≡ found ++ f (get_or disks k [])
@@ -22,4 +18,4 @@ one_more f disks k found more below so_far is =
 
 -- what is made of all records
 pub all_of : {X : Type 0} (f : Part → List X) (bytes : List ℕ) (k : ℕ) (found : List X) → disk_count_of (block_in bytes) ≤ k → found ≡ flat_map f (take k (block_in bytes).disks) → found ≡ flat_map f (block_in bytes).disks
-all_of f bytes k found all so_far = so_far ∙ ap (flat_map f) (take_all k (block_in bytes).disks (omega (arith, table_count bytes)))
+all_of f bytes k found all so_far = so_far ∙ ap (flat_map f) (take_all k (block_in bytes).disks (omega (arith, disks_counted bytes)))

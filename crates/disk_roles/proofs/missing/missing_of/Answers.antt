@@ -3,13 +3,14 @@ use Rattle.imsm_base.specs.Fields.{Part}
 use Rattle.imsm_base.specs.Layout.{disk_count_of}
 use Rattle.imsm_codec.specs.Mpb.{block_bytes, block_of}
 use Rattle.disk_roles.specs.Roles.{missing_as}
-use Rattle.disk_roles.proofs.Table.{all_of, one_more, table_count}
+use Rattle.imsm_codec.proofs.Found.{disks_counted}
+use Rattle.disk_roles.proofs.Table.{all_of, one_more}
 use Rattle.disk_roles.proofs.missing.missing_of.Goals as goal
 
 pub loop-i-preserved : goal.loop-i-preserved
 loop-i-preserved c =
     let b = block_of c.args.mpb.now in
-    let count : length b.disks ≡ disk_count_of b = table_count (block_bytes c.args.mpb.now) in
+    let count : length b.disks ≡ disk_count_of b = disks_counted (block_bytes c.args.mpb.now) in
     let below : c.loop-i.i < length b.disks = omega (arith, c.disks-i-end.ensures, count) in
     record {
       found = one_more (λ (disk : Part). missing_as disk c.args.list.now) b.disks c.loop-i.i c.loop-i.out.items c.push_missing.new.out.items below c.loop-i.invariant.found c.push_missing.ensures.items;

@@ -4,7 +4,7 @@ use Rattle.imsm_base.specs.Layout.{disk_count_of}
 use Rattle.imsm_codec.specs.Mpb.{block_bytes, block_of}
 use Rattle.imsm_view.proofs.Members.{find_none, find_least}
 use Rattle.disk_roles.specs.Roles.{is_named}
-use Rattle.disk_roles.proofs.Table.{table_count}
+use Rattle.imsm_codec.proofs.Found.{disks_counted}
 use Rattle.disk_roles.proofs.record.index_of.Goals as goal
 
 pub loop-i-preserved : goal.loop-i-preserved
@@ -15,13 +15,13 @@ loop-i-preserved c =
 pub returns-then-is_named : goal.returns-then-is_named
 returns-then-is_named c =
     let b = block_of c.args.mpb.now in
-    let count : length b.disks ≡ disk_count_of b = table_count (block_bytes c.args.mpb.now) in
+    let count : length b.disks ≡ disk_count_of b = disks_counted (block_bytes c.args.mpb.now) in
     let named : ℕ → Bool = λ k. is_named c.args.only_expected c.args.serial.now.0 (slice_index_or b.disks k []) in
     find_least named (length b.disks) c.loop-i.i (omega (arith, c.disks-i-end.ensures, count)) (sym c.is_named.ensures ∙ c.if-is_named.true) c.loop-i.invariant
 
 pub returns : goal.returns
 returns c =
     let b = block_of c.args.mpb.now in
-    let count : length b.disks ≡ disk_count_of b = table_count (block_bytes c.args.mpb.now) in
+    let count : length b.disks ≡ disk_count_of b = disks_counted (block_bytes c.args.mpb.now) in
     let named : ℕ → Bool = λ k. is_named c.args.only_expected c.args.serial.now.0 (slice_index_or b.disks k []) in
     find_none named (length b.disks) (λ k below. c.loop-i.invariant k (omega (arith, c.disks-i-end.ensures, count)))
