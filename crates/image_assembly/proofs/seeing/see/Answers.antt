@@ -1,0 +1,38 @@
+use Rattle.std.proofs.Common.{◌≡◌, ℕ, List, [], Some, refl, sym, ◌∙◌, ap, subst}
+use Rattle.std.specs.Prelude.{slice_get, slice_index}
+use Rattle.std.proofs.lemmas.List.{append-nil}
+use Rattle.imsm_base.specs.declared.units.Serial.{Serial}
+use Rattle.mpb_store.specs.Banks.{IsAnswerOn, sector_after}
+use Rattle.image_assembly.specs.Seen.{bytes_of, found_of}
+use Rattle.image_assembly.proofs.Seen.{answer_by, sound_by, told_at}
+use Rattle.image_assembly.proofs.seeing.see.Goals as goal
+
+pub returns-clause-seen : goal.returns-clause-seen
+returns-clause-seen g c =
+    let B = g.B.Bank in
+    let serials = B.serials c.args.bank.now in
+    let sizes = B.sizes c.args.bank.now in
+    let now = c.found-found.new.bank in
+    let answer = c.found-found.result in
+    let block = c.found-found.new.into.bytes in
+    let holds = c.in_ok-holds.holds in
+    let own = c.serial.result in
+    let same = c.in_ok-holds.ensures.found in
+    let bytes = c.in_ok-holds.ensures.block in
+    let at : slice_get serials c.args.d.0 ≡ Some own = subst (λ (l : List Serial). slice_get l c.args.d.0 ≡ Some own) c.found-found.ensures.serials c.serial.ensures in
+    let size : c.sectors.result ≡ slice_index sizes c.args.d.0 = c.sectors.ensures ∙ ap (λ (l : List ℕ). slice_index l c.args.d.0) c.found-found.ensures.sizes in
+    record {
+      disk = refl;
+      serial = at;
+      sectors = size;
+      sound = sound_by own.0 (slice_index sizes c.args.d.0) answer block holds same bytes (c.found-found.ensures.whole own at);
+      told = λ o all is known. (
+        all,
+        [],
+        sym (append-nil all),
+        subst (λ (n : ℕ). IsAnswerOn own.0 n (sector_after o all c.args.d.0) (found_of holds) (bytes_of holds)) (sym size)
+            (answer_by own.0 (slice_index sizes c.args.d.0) (sector_after o all c.args.d.0) answer block holds same bytes
+            (told_at (B.opening now) (B.log now) (λ o l. IsAnswerOn own.0 (slice_index sizes c.args.d.0) (sector_after o l c.args.d.0) answer block) (c.found-found.ensures.told own at) o all is known)),
+      );
+      unread = λ is. c.found-found.ensures.unread (sym same ∙ ap found_of is);
+    }
