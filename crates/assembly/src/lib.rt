@@ -6,8 +6,6 @@ mod containers;
 mod judging;
 mod opening;
 mod seen;
-#[cfg(test)]
-mod tests;
 mod verdict;
 
 pub use judging::judge;

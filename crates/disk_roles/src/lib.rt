@@ -6,8 +6,6 @@ mod arrived;
 mod missing;
 mod record;
 mod role;
-#[cfg(test)]
-mod tests;
 
 pub use arrived::{Arrived, Holds};
 pub use missing::{Lack, Missing, missing_of};

@@ -4,8 +4,6 @@
 mod disks;
 mod header;
 mod maps;
-#[cfg(test)]
-mod tests;
 mod text;
 mod volumes;
 

@@ -7,8 +7,6 @@ mod found;
 mod law;
 mod newest;
 mod picking;
-#[cfg(test)]
-mod tests;
 mod twins;
 
 pub use fault::PickFault;

@@ -3,8 +3,6 @@
 
 mod commands;
 mod numbers;
-#[cfg(test)]
-mod tests;
 mod verbs;
 mod volumes;
 mod words;

@@ -11,14 +11,6 @@ abbrev pub total : List ℕ → ℕ
 total [] = 0
 total (n ∷ ns) = n + total ns
 
--- a field's place may count from any byte before it
-pub cut_at-drop : (j at n : ℕ) (ns bytes : List ℕ) → j ≡ at + n → cut_at j ns bytes ≡ cut_at n ns (drop at bytes)
-cut_at-drop j at n [] bytes e = refl
-cut_at-drop j at n (m ∷ ns) bytes e =
-    let here : take m (drop j bytes) ≡ take m (drop n (drop at bytes)) = ap (λ (i : ℕ). take m (drop i bytes)) e ∙ ap (take m) (sym (drop-drop n at bytes)) in
-    let more : cut_at (j + m) ns bytes ≡ cut_at (n + m) ns (drop at bytes) = cut_at-drop (j + m) at (n + m) ns bytes (omega arith) in
-    cc
-
 -- a part that stands somewhere is cut out of there
 pub cut_at-joined : (at : ℕ) (ns before : List ℕ) (part : Part) (rest : List ℕ) →
     length before ≡ at → HasLengths ns part → cut_at at ns (before ++ (concat part ++ rest)) ≡ part

@@ -70,9 +70,6 @@ same_volume_of : {a b c d : Part} {ms ns : List Map} → a ≡ b → c ≡ d →
 same_volume_of {a} {b} {c} {d} {ms} {ns} p q r =
     ap (λ (x : Part). volume_of x c ms) p ∙ ap (λ (x : Part). volume_of b x ms) q ∙ ap (volume_of b d) r
 
-abbrev front : Volume → List ℕ
-front v = concat v.device ++ concat v.state
-
 pub volume_in-joined : (v : Volume) (rest : List ℕ) → IsVolume v → volume_in (volume_bytes v ++ rest) ≡ v
 volume_in-joined v rest is =
     let D : List ℕ = concat v.device in

@@ -73,14 +73,8 @@ wide low high part = number_in low part + 2 ^ 32 * number_in high part
 abbrev pub total_blocks_of : Part → ℕ
 total_blocks_of disk = wide 1 5 disk
 
-abbrev pub scsi_id_of : Part → ℕ
-scsi_id_of disk = number_in 2 disk
-
 abbrev pub status_of : Part → ℕ
 status_of disk = number_in 3 disk
-
-abbrev pub owner_of : Part → ℕ
-owner_of disk = number_in 4 disk
 
 -- A volume's record: name, size_low, size_high, status, 22 bytes carried, policy, 29 carried.
 abbrev pub device_lengths : List ℕ

@@ -1,7 +1,7 @@
 -- The words of a volume. Each reads fields alone.
 -- Source: imsm_vol, imsm_map and the helpers on them in super-intel.c, and the kernel's md.rst. Which values are
 -- supported, when a checkpoint is honoured and what counts as unfinished are this project's own.
-use Rattle.std.specs.Prelude.{ℕ, ◌+◌, ◌-◌, ◌*◌, ◌/◌, ◌%◌, ◌^◌, ◌==◌, ◌&&◌, ◌||◌, nat_lt, nat_le, not, Bool, false, if◌then◌else◌, List, [], ◌∷◌, map, find, count_by, take, drop, length, slice_get, slice_index, slice_index_or, Option, Some, None, is_none}
+use Rattle.std.specs.Prelude.{ℕ, ◌<◌, ◌≤◌, ◌+◌, ◌-◌, ◌*◌, ◌/◌, ◌%◌, ◌^◌, ◌==◌, ◌&&◌, ◌||◌, nat_lt, nat_le, max, not, Bool, false, if◌then◌else◌, List, [], ◌∷◌, map, find, count_by, take, drop, length, slice_get, slice_index, slice_index_or, Option, Some, None, is_none}
 use Rattle.std.specs.Option.{option_map, option_map_or}
 use Rattle.std.specs.List.{list_any, list_all, range_with_len}
 use Rattle.std.specs.Int.{bit_at}
@@ -157,14 +157,20 @@ has_geometry b v =
     && list_all (has_sectors b (pba_of m + volume_rows v + METADATA_SECTORS)) (members v)
     && list_all (is_like m) v.maps
 
--- two volumes have a disk in common, and their ranges on it meet
+-- two volumes have a disk in common, and their ranges meet
 abbrev pub has_index : Volume → Member → Bool
 has_index v m = list_any (λ other. other.index == m.index) (members v)
 
+-- a sector of a disk lies in a map's range
+pub record IsInRange (sector : ℕ) (m : Map) : Type 0 where
+  pub from : pba_of m ≤ sector
+  pub to : sector < pba_of m + blocks_per_member_of m
+
+-- ranges meet where some sector lies in both; then the first sector of the later one does
 abbrev pub do_meet : Map → Map → Bool
 do_meet m other =
-    nat_lt (pba_of m) (pba_of other + blocks_per_member_of other)
-    && nat_lt (pba_of other) (pba_of m + blocks_per_member_of m)
+    let first = max (pba_of m) (pba_of other) in
+    nat_lt first (pba_of m + blocks_per_member_of m) && nat_lt first (pba_of other + blocks_per_member_of other)
 
 abbrev pub is_over : Volume → Volume → Bool
 is_over v other = list_any (has_index other) (members v) && do_meet (first_map v) (first_map other)

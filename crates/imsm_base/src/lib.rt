@@ -5,6 +5,7 @@
 mod bounds;
 mod number;
 mod parts;
+mod ranges;
 mod units;
 mod vector;
 
@@ -14,5 +15,6 @@ pub use bounds::{
 };
 pub use number::{get_u16, get_u32, put_u16, put_u32};
 pub use parts::parts_are_determined;
+pub use ranges::ranges_meet_in_a_sector;
 pub use units::{DiskNo, Geometry, Level, Sector, Serial, Slot, VolNo};
 pub use vector::{example_of_a_torn_block, example_of_a_whole_block};

@@ -36,13 +36,13 @@ abbrev pub seen_as : List ℕ → ℕ → Buffer
 seen_as bytes room = record { bytes = bytes; room = room }
 
 pub made : (old after : List ℕ) (capacity more room : ℕ) (s : Buffer) (edit : Block → Block) → seen_as old room ≡ s → IsKept old room capacity → capacity ≤ more →
-    after ≡ bytes_of (edit (block_in old)) → length after ≤ room → IsBlock (edit (block_in old)) → size_of (edit (block_in old)) ≤ MAX_BLOCK_BYTES → IsMade after more room s edit
-made old after capacity more room s edit view k grows is fits block small =
+    after ≡ bytes_of (edit (block_in old)) → length after ≤ room → length after % 4 ≡ 0 → IsBlock (edit (block_in old)) → size_of (edit (block_in old)) ≤ MAX_BLOCK_BYTES → IsMade after more room s edit
+made old after capacity more room s edit view k grows is fits words block small =
     let new : Block = edit (block_in old) in
     let spells : Spells after new = record { parts = block; laid = is } in
     let taken = k.taken in
     record {
-      kept = record { laid = laid_as after new spells small; fits = fits; most = k.most; taken = omega arith };
+      kept = record { laid = laid_as after new spells small words; fits = fits; most = k.most; taken = omega arith };
       bytes = ap (λ (x : List ℕ). seen_as x room) is ∙ ap (λ (x : Buffer). edited_as x) view;
       block = block_in-spelled after new spells ∙ ap (λ (x : Buffer). edit (parts_of x)) view;
     }
@@ -63,7 +63,7 @@ done v ws room s edit view k is same block small =
     let after : (with_items v ws).items ≡ ws = with_items_is v ws (same ∙ sym v.ok.0) in
     let fits = k.fits in
     let len : length (with_items v ws).items ≡ length v.items = ap (λ (x : List ℕ). length x) after ∙ same in
-    made v.items (with_items v ws).items v.cap v.cap room s edit view k (omega arith) (after ∙ is) (omega arith) block small
+    made v.items (with_items v ws).items v.cap v.cap room s edit view k (omega arith) (after ∙ is) (omega arith) (ap (λ (n : ℕ). n % 4) len ∙ k.laid.words) block small
 
 -- the same where as many bytes are put at a place
 pub put_done : (v : Vec ℕ) (ws now w : List ℕ) (room place n : ℕ) (s : Buffer) (edit : Block → Block) → seen v room ≡ s → IsKept v.items room v.cap →
@@ -221,8 +221,9 @@ add_done old after added read capacity more room count s disk view kept grows fe
     ∙ ap (λ (n : ℕ). with_number_at 1 56 (n + 1) (take (disk_place n) old ++ (concat disk ++ drop (disk_place n) old))) number in
     let new : IsBlock (block_with_disk b disk) = with_disk_more-is b disk block lengths (omega (arith, block.disk_count)) in
     let laid : after ≡ bytes_of (block_with_disk b disk) = there ∙ disk_laid_more b disk old block (laid_apart old) in
-    made old after capacity more room s (λ x. block_with_disk x disk) view kept grows laid
-    (omega (arith, ap (λ (x : List ℕ). length x) laid, ap (λ (x : List ℕ). length x) (laid_apart old), length-disk_more b disk block new)) new
+    let longer : length after ≡ length old + 48 =
+    omega (arith, ap (λ (x : List ℕ). length x) laid, ap (λ (x : List ℕ). length x) (laid_apart old), length-disk_more b disk block new) in
+    made old after capacity more room s (λ x. block_with_disk x disk) view kept grows laid (omega arith) (omega (arith, kept.laid.words)) new
     (subst (λ (n : ℕ). n ≤ MAX_BLOCK_BYTES) (sym (other_field b 8 3 (little_bytes 1 (length b.disks + 1)) (λ e. omega arith))) kept.laid.size)
 
 -- the count that is read
@@ -235,8 +236,9 @@ disks_read old read count counted same = counted ∙ ap (number_at 1 56) same
 -- where the bytes around a volume are left
 around_done : (old after : List ℕ) (capacity more room k : ℕ) (s : Buffer) (f : Volume → Volume) → seen_as old room ≡ s → IsKept old room capacity → capacity ≤ more → k < volume_count_of (block_in old) →
     after ≡ before_volume k (block_in old) ++ (volume_bytes (f (volume_at k (block_in old))) ++ behind_volume k (block_in old)) → IsVolume (f (volume_at k (block_in old))) →
-    length old + volume_room (f (volume_at k (block_in old))) ≤ room + volume_room (volume_at k (block_in old)) → IsMade after more room s (with_volume k f)
-around_done old after capacity more room k s f view kept grows below is new fits =
+    length old + volume_room (f (volume_at k (block_in old))) ≤ room + volume_room (volume_at k (block_in old)) →
+    volume_room (f (volume_at k (block_in old))) % 4 ≡ volume_room (volume_at k (block_in old)) % 4 → IsMade after more room s (with_volume k f)
+around_done old after capacity more room k s f view kept grows below is new fits words =
     let b : Block = block_in old in
     let x : Volume = volume_at k b in
     let block : IsBlock b = block_is old kept.laid in
@@ -246,8 +248,7 @@ around_done old after capacity more room k s f view kept grows below is new fits
     let behind : List ℕ = behind_volume k b in
     let old_length : length old ≡ length (before ++ (volume_bytes x ++ behind)) = ap (λ (y : List ℕ). length y) (laid_apart old ∙ volume_around k b blank_volume within) in
     let new_length : length after ≡ length (before ++ (volume_bytes (f x) ++ behind)) = ap (λ (y : List ℕ). length y) is in
-    made old after capacity more room s (with_volume k f) view kept grows (is ∙ sym (volume_laid k f b blank_volume within))
-    (
+    let moved : length after + volume_room x ≡ length old + volume_room (f x) =
     omega (
       arith,
       length-append before (volume_bytes x ++ behind),
@@ -256,8 +257,8 @@ around_done old after capacity more room k s f view kept grows below is new fits
       length-append (volume_bytes (f x)) behind,
       length-volume_bytes x volume,
       length-volume_bytes (f x) new,
-    )
-    )
+    ) in
+    made old after capacity more room s (with_volume k f) view kept grows (is ∙ sym (volume_laid k f b blank_volume within)) (omega arith) (omega (arith, kept.laid.words))
     (with_volume-is k f b blank_volume block new) kept.laid.size
 
 state_of : (old : List ℕ) (room k : ℕ) (s : Buffer) (P : ℕ → Type 0) → seen_as old room ≡ s → P (migration_state_of (volume_at k (parts_of s))) → P (migration_state_of (volume_at k (block_in old)))
@@ -282,7 +283,7 @@ open_done old after read second capacity more room k volume len s view kept grow
     let laid : after ≡ before_volume k b ++ (volume_bytes (volume_with_migration x) ++ behind_volume k b) =
     put ∙ opened_laid (before_volume k b) (behind_volume k b) old x volume len is idle (volume_placed k b block ∙ sym here.place) room_of_map
     (laid_apart old ∙ volume_around k b blank_volume (omega (arith, block.volume_count))) in
-    around_done old after capacity more room k s volume_with_migration view kept grows below laid (opened-is x is) (omega (arith, opened-room x is idle))
+    around_done old after capacity more room k s volume_with_migration view kept grows below laid (opened-is x is) (omega (arith, opened-room x is idle)) (omega (arith, opened-room x is idle))
 
 pub close_done : (old after read third : List ℕ) (fourth : List ℕ) (capacity more room k volume second len : ℕ) (s : Buffer) → seen_as old room ≡ s → IsKept old room capacity → capacity ≤ more → k < volume_count_of (parts_of s) →
     migration_state_of (volume_at k (parts_of s)) ≢ 0 → read ≡ old → IsVolumePlace volume k read → third ≡ old → IsMapPlace second k 1 third → fourth ≡ old → len ≡ map_room (map_at 1 (volume_at k (block_in fourth))) →
@@ -303,7 +304,7 @@ close_done old after read third fourth capacity more room k volume second len s 
     let laid : after ≡ before_volume k b ++ (volume_bytes (volume_without_migration x) ++ behind_volume k b) =
     put ∙ closed_laid (before_volume k b) (behind_volume k b) old x volume second len is busy (volume_placed k b block ∙ sym here.place) (omega arith) (map_size_of old fourth k 1 len last size)
     (laid_apart old ∙ volume_around k b blank_volume (omega (arith, block.volume_count))) in
-    around_done old after capacity more room k s volume_without_migration view kept grows below laid (closed-is x is) (omega (arith, closed-room x is busy))
+    around_done old after capacity more room k s volume_without_migration view kept grows below laid (closed-is x is) (omega (arith, closed-room x is busy)) (omega (arith, closed-room x is busy))
 
 -- the one map ends inside
 pub open_inside : (old read second : List ℕ) (capacity room k volume len : ℕ) (s : Buffer) → seen_as old room ≡ s → IsKept old room capacity → k < volume_count_of (parts_of s) →
@@ -334,6 +335,7 @@ drop_done old after read capacity more room count others place i s view kept gro
     let laid : after ≡ bytes_of (block_without_record b i) =
     put ∙ ap (λ (n : ℕ). with_number_at 1 56 others (take n old ++ drop (n + 48) old)) at ∙ ap (λ (n : ℕ). with_number_at 1 56 n (take (disk_place i) old ++ drop (disk_place i + 48) old)) left ∙ disk_laid_less b i old block inside (laid_apart old) in
     let fits = kept.fits in
-    made old after capacity more room s (λ x. block_without_record x i) view kept grows laid
-    (omega (arith, ap (λ (x : List ℕ). length x) laid, ap (λ (x : List ℕ). length x) (laid_apart old), length-disk_less b i block inside new)) new
+    let shorter : length after + 48 ≡ length old =
+    omega (arith, ap (λ (x : List ℕ). length x) laid, ap (λ (x : List ℕ). length x) (laid_apart old), length-disk_less b i block inside new) in
+    made old after capacity more room s (λ x. block_without_record x i) view kept grows laid (omega arith) (omega (arith, kept.laid.words)) new
     (subst (λ (n : ℕ). n ≤ MAX_BLOCK_BYTES) (sym (other_field b 8 3 (little_bytes 1 (length b.disks - 1)) (λ e. omega arith))) kept.laid.size)

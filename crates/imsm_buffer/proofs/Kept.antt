@@ -1,6 +1,6 @@
 -- An owned block stays laid under its edits.
 use Rattle.std.proofs.lemmas.Bool.{cases_order}
-use Rattle.std.proofs.Common.{◌≡◌, min, ℕ, ◌+◌, ◌*◌, ◌/◌, if◌then◌else◌, ◌^◌, ◌<◌, ◌≤◌, Bool, ◌-◌, ◌⊎◌, inl, inr, List, ◌++◌, length, take, drop, replicate, refl, sym, ◌∙◌, ap, subst, arith}
+use Rattle.std.proofs.Common.{◌≡◌, min, ℕ, ◌+◌, ◌*◌, ◌/◌, ◌%◌, if◌then◌else◌, ◌^◌, ◌<◌, ◌≤◌, Bool, ◌-◌, ◌⊎◌, inl, inr, List, ◌++◌, length, take, drop, replicate, refl, sym, ◌∙◌, ap, subst, arith}
 use Rattle.std.specs.Global.{Vec}
 use Rattle.std.specs.Vec.{with_items}
 use Rattle.std.proofs.Math.Seq.{take-append-add}
@@ -10,7 +10,7 @@ use Rattle.imsm_base.specs.declared.bounds.TheConstants.{MAX_BLOCK_BYTES}
 use Rattle.imsm_base.specs.Fields.{number_at, with_number_at}
 use Rattle.imsm_base.specs.Layout.{Block, Spells, size_of, volume_count_of}
 use Rattle.imsm_base.specs.Parts.{block_in}
-use Rattle.imsm_base.specs.Whole.{block_sum}
+use Rattle.imsm_base.specs.Whole.{IsSize, block_sum}
 use Rattle.imsm_base.specs.Edits.{first_sector, with_generation, dirty_place, with_dirty, sized, sealed, block_with_generation, block_with_dirty, block_sealed}
 use Rattle.imsm_base.proofs.Joined.{block_in-spelled, room_of-spelled}
 use Rattle.imsm_base.proofs.Apart.{spells_apart, length-volumes}
@@ -23,12 +23,13 @@ use Rattle.imsm_buffer.specs.Buffer.{IsKept}
 pub written : (v : Vec ℕ) (ws bytes : List ℕ) → ws ≡ bytes → length bytes ≡ length v.items → (with_items v ws).items ≡ bytes
 written v ws bytes is len = with_items_is v ws (ap (λ (x : List ℕ). length x) is ∙ len ∙ sym v.ok.0) ∙ is
 
-pub laid_as : (bytes : List ℕ) (b : Block) → Spells bytes b → size_of b ≤ MAX_BLOCK_BYTES → IsLaid bytes
-laid_as bytes b s most =
+pub laid_as : (bytes : List ℕ) (b : Block) → Spells bytes b → size_of b ≤ MAX_BLOCK_BYTES → length bytes % 4 ≡ 0 → IsLaid bytes
+laid_as bytes b s most words =
     let same : b ≡ block_in bytes = sym (block_in-spelled bytes b s) in
     record {
       room = room_of-spelled bytes (block_in bytes) (subst (Spells bytes) same s);
       size = subst (λ (x : Block). size_of x ≤ MAX_BLOCK_BYTES) same most;
+      words = words;
     }
 
 parts_in : (bytes : List ℕ) → IsLaid bytes → Spells bytes (block_in bytes)
@@ -40,7 +41,7 @@ long bytes laid = let room = laid.room in omega arith
 kept_as : (bytes new : List ℕ) (b : Block) (room capacity : ℕ) → IsKept bytes room capacity → Spells new b → size_of b ≤ MAX_BLOCK_BYTES → length new ≡ length bytes → IsKept new room capacity
 kept_as bytes new b room capacity k s most same =
     let fits = k.fits in
-    record { laid = laid_as new b s most; fits = omega arith; most = k.most; taken = k.taken }
+    record { laid = laid_as new b s most (ap (λ (n : ℕ). n % 4) same ∙ k.laid.words); fits = omega arith; most = k.most; taken = k.taken }
 
 -- THE GENERATION
 
@@ -112,6 +113,14 @@ sealed-block bytes laid =
 
 pub sealed-parts : (bytes : List ℕ) → IsLaid bytes → length bytes < 2 ^ 32 → IsSealed (sealed bytes) (block_in (sealed bytes))
 sealed-parts bytes laid short = subst (IsSealed (sealed bytes)) (sym (sealed-block bytes laid)) (seal_of bytes laid short)
+
+pub sealed-size : (bytes : List ℕ) (room capacity : ℕ) → IsKept bytes room capacity → IsSize (size_of (block_in (sealed bytes)))
+sealed-size bytes room capacity k =
+    let kept : IsKept (sealed bytes) room capacity = sealed-kept bytes room capacity k in
+    let before : length bytes ≤ 8192 = let fits = k.fits in let most = k.most in omega arith in
+    let after : length (sealed bytes) ≤ 8192 = omega (arith, length-seal bytes k.laid) in
+    let given = (sealed-parts bytes k.laid (omega arith)).given in
+    subst IsSize (sym given) (record { least = long (sealed bytes) kept.laid; most = after; words = kept.laid.words })
 
 -- THE FIRST SECTOR
 

@@ -1,6 +1,6 @@
 -- Runs of bytes that are put in or taken out at the place of a part make the bytes of the block with that part put in or
 -- taken out.
-use Rattle.std.proofs.Common.{◌≡◌, ◌≢◌, ℕ, zero, suc, ◌+◌, ◌≤◌, ◌<◌, ◌==◌, if◌then◌else◌, Bool, true, false, List, [], ◌∷◌, ◌++◌, length, take, drop, get_or, refl, sym, ◌∙◌, ap, arith, ◌-◌}
+use Rattle.std.proofs.Common.{◌≡◌, ◌≢◌, ℕ, zero, suc, ◌+◌, ◌<◌, ◌==◌, if◌then◌else◌, Bool, true, false, List, [], ◌∷◌, ◌++◌, length, take, drop, get_or, refl, sym, ◌∙◌, ap, arith, ◌-◌}
 use Rattle.std.specs.List.{concat, flat_map, remove, AllByRecursion}
 use Rattle.std.proofs.lemmas.List.{append_assoc, append-nil, take_at, drop_at, length-append, get_or-set_same}
 use Rattle.std.proofs.Math.Dec.{eqb-suc-zero}
@@ -190,9 +190,6 @@ opened_maps v is opened = two_maps v.maps (is.count ∙ count_open (migration_st
 abbrev with_maps : List Map → Volume → Volume
 with_maps ms v = record v { maps = ms }
 
-front_bytes : Volume → List ℕ
-front_bytes v = concat v.device ++ concat v.state
-
 maps_kept : (v : Volume) (ms : List Map) → HasFields v → AllByRecursion IsMap ms → HasFields (with_maps ms v)
 maps_kept v ms is all = record { device = is.device; state = is.state; maps = all }
 
@@ -306,5 +303,5 @@ closed-is v is =
 pub opened-room : (v : Volume) → IsVolume v → migration_state_of v ≡ 0 → volume_room (volume_with_migration v) ≡ volume_room v + map_room (first_map v)
 opened-room v is closed = omega (arith, ap maps_room (closed_maps v is closed))
 
-pub closed-room : (v : Volume) → IsVolume v → migration_state_of v ≢ 0 → volume_room (volume_without_migration v) ≤ volume_room v
+pub closed-room : (v : Volume) → IsVolume v → migration_state_of v ≢ 0 → volume_room (volume_without_migration v) + map_room (get_or v.maps 1 blank_map) ≡ volume_room v
 closed-room v is opened = omega (arith, ap maps_room (opened_maps v is opened))

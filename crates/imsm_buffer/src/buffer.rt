@@ -2,7 +2,7 @@
 ghost use Rattle.std.specs.Prelude.{◌≡◌, ◌*◌, ◌≤◌, ◌↔◌, length, vec_capacity, IfOk, IfErr, IsOk, OnOk, OnErr};
 ghost use Rattle.imsm_base.specs.declared.bounds.TheConstants.{MAX_BLOCK_BYTES};
 ghost use Rattle.imsm_base.specs.Layout.{size_of, checksum_of, bytes_of};
-ghost use Rattle.imsm_base.specs.Whole.{block_sum};
+ghost use Rattle.imsm_base.specs.Whole.{IsSize, block_sum};
 ghost use Rattle.imsm_base.specs.Edits.{sized, sealed, first_sector, block_sealed};
 ghost use Rattle.imsm_base.specs.EditsOfTables.{new_block};
 ghost use Rattle.imsm_codec.specs.Mpb.{block_bytes, block_of};
@@ -132,7 +132,8 @@ impl MpbBuf {
     pub fn seal(&mut self)
         ensures bytes { self.new ≡ record self.old { bytes = sealed self.old.bytes } }
         ensures block { parts_of self.new ≡ block_sealed (parts_of self.old) (length self.old.bytes) (block_sum (sized self.old.bytes)) }
-        // So these conditions of a whole block hold.
+        // So the conditions of a whole block on its size and its checksum hold.
+        ensures sized { IsSize (size_of (parts_of self.new)) }
         ensures given { size_of (parts_of self.new) ≡ length self.new.bytes }
         ensures summed { checksum_of (parts_of self.new) ≡ block_sum self.new.bytes }
     {

@@ -10,8 +10,6 @@ mod places;
 mod record;
 mod removal;
 mod tables;
-#[cfg(test)]
-mod tests;
 
 pub use buffer::MpbBuf;
 pub use fault::{CodecFault, NoRoom};

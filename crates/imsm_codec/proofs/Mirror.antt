@@ -4,7 +4,7 @@ use Rattle.std.specs.Prelude.{◌↔◌, find, is_none, nat_le, nat_lt, slice_ge
 use Rattle.std.specs.Option.{option_map, option_map_or}
 use Rattle.std.specs.List.{list_any, list_all, range_with_len}
 use Rattle.std.specs.Int.{bit_at}
-use Rattle.std.proofs.lemmas.Bool.{and_parts, and_from, both_ways, false≢true, eqb-true, eq-eqb, leb-true, le-leb, ltb-true, lt-ltb}
+use Rattle.std.proofs.lemmas.Bool.{and_parts, and_from, false≢true, eqb-true, eq-eqb, leb-true, le-leb, ltb-true, lt-ltb}
 use Rattle.std.proofs.lemmas.List.{nil_from_length}
 use Rattle.imsm_base.specs.declared.units.Level.{Level}
 use Rattle.imsm_base.specs.declared.units.Level.TheVariants.{One, Five, Ten}
@@ -275,13 +275,6 @@ mirror_back b v p d s g o state is m =
 pub mirror_decided : (b : Block) (v : Volume) (p d s g o : Bool) (state : ℕ) → AreTested b v p d s g o state →
     all_of (p ∷ not d ∷ (state == 0) ∷ s ∷ g ∷ not o ∷ []) ≡ true ↔ IsCleanMirror b v
 mirror_decided b v p d s g o state is = (mirror_there b v p d s g o state is, mirror_back b v p d s g o state is)
-
--- what isn't of level one, or has a pass, is no clean mirror
-pub other_level : (b : Block) (v : Volume) → is_level_one v ≡ false → IsCleanMirror b v → ⊥
-other_level b v other m = both_ways (is_level_one v) other (one_from_level v m.level)
-
-pub with_pass : (b : Block) (v : Volume) → has_pass v ≡ true → IsCleanMirror b v → ⊥
-with_pass b v pass m = both_ways (has_pass v) m.idle pass
 
 -- the geometry by the tests of the code
 three_of : (a r x y : Bool) → a ≡ true → all_of (r ∷ x ∷ y ∷ []) ≡ (a && r && x && y)

@@ -1,5 +1,5 @@
 -- Bytes begin with a whole block exactly where each step of the check finds them right.
-use Rattle.std.proofs.Common.{◌≡◌, ℕ, ◌+◌, ◌*◌, ◌-◌, ◌≤◌, min, List, length, take, sym, ◌∙◌, subst, arith}
+use Rattle.std.proofs.Common.{◌≡◌, ℕ, ◌+◌, ◌*◌, ◌-◌, ◌%◌, ◌≤◌, min, List, length, take, sym, ◌∙◌, ap, subst, arith}
 use Rattle.std.proofs.lemmas.List.{length-take, length-drop, take-take, length-take-le}
 use Rattle.imsm_base.specs.Fields.{number_at}
 use Rattle.imsm_base.specs.Layout.{Block}
@@ -56,10 +56,13 @@ whole_from_checks bytes g c =
 
 -- the view's facts
 pub laid_from_checks : (bytes : List ℕ) → IsGiven bytes → IsChecked (given_block bytes) → IsLaid (given_block bytes)
-laid_from_checks bytes g c = record {
-  room = room_of-checked (given_block bytes) c;
-  size = (whole_from_checks bytes g c).sized.most;
-}
+laid_from_checks bytes g c =
+    let size = g.sized.sized in
+    record {
+      room = room_of-checked (given_block bytes) c;
+      size = (whole_from_checks bytes g c).sized.most;
+      words = ap (λ (n : ℕ). n % 4) (length-given bytes g) ∙ size.words;
+    }
 
 -- and back: the parts of a whole block are right
 pub whole_apart : (bytes : List ℕ) (b : Block) → IsWholeBlock bytes b → IsWholeBlock bytes (block_in bytes)

@@ -13,8 +13,6 @@ mod map;
 mod mpb;
 mod record;
 mod tail;
-#[cfg(test)]
-mod tests;
 mod volume;
 mod whole_disk;
 mod words;

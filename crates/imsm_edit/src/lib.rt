@@ -6,8 +6,6 @@ mod facts;
 mod marks;
 mod passes;
 mod states;
-#[cfg(test)]
-mod tests;
 
 pub use facts::EditFacts;
 pub use marks::{mark_clean, mark_dirty, mark_point};

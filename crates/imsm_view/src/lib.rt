@@ -9,8 +9,6 @@ mod law;
 mod overlap;
 mod questions;
 mod slot;
-#[cfg(test)]
-mod tests;
 mod view;
 mod volume;
 

@@ -24,10 +24,11 @@ fn do_meet(mpb: &MpbRef<'_>, v: VolNo, other: VolNo) -> bool
     requires other { other.0 < volume_count_of (block_of mpb.now) }
     ensures { result ≡ do_meet (first_map (volume_at v.0 (block_of mpb.now))) (first_map (volume_at other.0 (block_of mpb.now))) }
 {
-    let first = mpb.map_pba(v, 0);
-    let second = mpb.map_pba(other, 0);
-    is_before_end(first, second, mpb.map_blocks(other, 0))
-        && is_before_end(second, first, mpb.map_blocks(v, 0))
+    let one = mpb.map_pba(v, 0);
+    let two = mpb.map_pba(other, 0);
+    let first = one.max(two);
+    is_before_end(first, one, mpb.map_blocks(v, 0))
+        && is_before_end(first, two, mpb.map_blocks(other, 0))
 }
 
 /// Whether two volumes have a disk index in common.

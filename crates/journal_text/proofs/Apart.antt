@@ -1,15 +1,15 @@
 -- Two journals with the same text are equal.
 use Rattle.std.proofs.Common.{◌≡◌, ℕ, ◌<◌, false, List, [], ◌∷◌, ◌++◌, length, drop, refl, sym, ap, ◌∙◌, arith, append_assoc}
 use Rattle.std.specs.Prelude.{slice_index_or}
-use Rattle.std.specs.List.{All, slice_split}
+use Rattle.std.specs.List.{AllByRecursion, slice_split}
 use Rattle.std.specs.Fmt.{decimal}
 use Rattle.std.proofs.lemmas.Fmt.{decimal_nonempty}
 use Rattle.std.proofs.lemmas.List.{length-append}
-use Rattle.std.proofs.lemmas.List.Elements.{All-append, All-cons, All-head, All-nil, All-tail}
+use Rattle.std.proofs.lemmas.List.Elements.{All-append}
 use Rattle.std.proofs.lemmas.List.Splits.{slice_split_at}
 use Rattle.array_model.specs.declared.journal.Entry.{Entry}
 use Rattle.journal_text.specs.Lines.{event_words, spelled, entry_line, journal_text}
-use Rattle.journal_text.specs.Fits.{FitsEntry}
+use Rattle.array_model.specs.Fits.{FitsEntry}
 use Rattle.journal_text.proofs.Cut.{is_space, is_feed, without, cut_words, unfed}
 use Rattle.journal_text.proofs.Plain.{decimal_plain, event_plain}
 use Rattle.journal_text.proofs.Told.{number_in, number_told, event_in, event_told}
@@ -55,26 +55,24 @@ no_line e rest fits same =
     let first : [] ≡ body e = ap (λ lines. slice_index_or lines 0 []) (same ∙ cut_line e rest fits) in
     absurd (omega (arith, body_has e fits, ap (λ bs. length bs) first))
 
-lines_apart : (a b : List Entry) → All FitsEntry a → All FitsEntry b
+lines_apart : (a b : List Entry) → AllByRecursion FitsEntry a → AllByRecursion FitsEntry b
     → slice_split is_feed (journal_text a) ≡ slice_split is_feed (journal_text b) → a ≡ b
 lines_apart [] [] fits fits' same = refl
-lines_apart [] (f ∷ b) fits fits' same = absurd (no_line f (journal_text b) (All-head FitsEntry f b fits') same)
-lines_apart (e ∷ a) [] fits fits' same = absurd (no_line e (journal_text a) (All-head FitsEntry e a fits) (sym same))
+lines_apart [] (f ∷ b) fits fits' same = absurd (no_line f (journal_text b) fits'.0 same)
+lines_apart (e ∷ a) [] fits fits' same = absurd (no_line e (journal_text a) fits.0 (sym same))
 lines_apart (e ∷ a) (f ∷ b) fits fits' same =
-    let here = All-head FitsEntry e a fits in
-    let here' = All-head FitsEntry f b fits' in
     let lines : body e ∷ slice_split is_feed (journal_text a) ≡ body f ∷ slice_split is_feed (journal_text b) =
-    sym (cut_line e (journal_text a) here) ∙ (same ∙ cut_line f (journal_text b) here') in
-    let head : e ≡ f = entry_apart e f here here' (ap (λ ls. slice_index_or ls 0 []) lines) in
-    let tail : a ≡ b = lines_apart a b (All-tail FitsEntry e a fits) (All-tail FitsEntry f b fits') (ap (λ ls. drop 1 ls) lines) in
+    sym (cut_line e (journal_text a) fits.0) ∙ (same ∙ cut_line f (journal_text b) fits'.0) in
+    let head : e ≡ f = entry_apart e f fits.0 fits'.0 (ap (λ ls. slice_index_or ls 0 []) lines) in
+    let tail : a ≡ b = lines_apart a b fits.1 fits'.1 (ap (λ ls. drop 1 ls) lines) in
     ap (λ x. x ∷ a) head ∙ ap (λ xs. f ∷ xs) tail
 
-pub journal_apart : (a b : List Entry) → All FitsEntry a → All FitsEntry b → journal_text a ≡ journal_text b → a ≡ b
+pub journal_apart : (a b : List Entry) → AllByRecursion FitsEntry a → AllByRecursion FitsEntry b → journal_text a ≡ journal_text b → a ≡ b
 journal_apart a b fits fits' same = lines_apart a b fits fits' (ap (λ bs. slice_split is_feed bs) same)
 
 pub line_apart : (a b : Entry) → FitsEntry a → FitsEntry b → entry_line a ≡ entry_line b → a ≡ b
 line_apart a b fits fits' same =
     let one : a ∷ [] ≡ b ∷ [] =
-    journal_apart (a ∷ []) (b ∷ []) (All-cons FitsEntry a [] fits (All-nil FitsEntry)) (All-cons FitsEntry b [] fits' (All-nil FitsEntry))
+    journal_apart (a ∷ []) (b ∷ []) (fits, tt) (fits', tt)
     (ap (λ line. line ++ []) same) in
     ap (λ entries. slice_index_or entries 0 a) one

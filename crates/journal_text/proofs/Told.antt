@@ -22,7 +22,7 @@ use Rattle.array_model.specs.declared.journal.Answer.TheVariants.{Done, Value, P
 use Rattle.array_model.specs.declared.journal.DeclinedKind.{DeclinedKind}
 use Rattle.array_model.specs.declared.journal.DeclinedKind.TheVariants.{Stale, NotSpare, Full, Large, NoVolume, Name, NoDisk, Member, Small, NotFailed, InUse}
 use Rattle.journal_text.specs.Lines.{kind_word, answer_words, event_words, is_repeated}
-use Rattle.journal_text.specs.Fits.{IsByte, FitsAnswer, FitsEvent}
+use Rattle.array_model.specs.Fits.{IsByte, FitsAnswer, FitsEvent}
 
 -- NUMBERS AND VALUES
 

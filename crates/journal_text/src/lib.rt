@@ -4,8 +4,6 @@
 mod law;
 mod line;
 mod pieces;
-#[cfg(test)]
-mod tests;
 mod value;
 mod words;
 

@@ -33,7 +33,7 @@ same_read p q same = cc
 pub some_left : (r : Reading) (p : ℕ) → Read p ≡ first_read (places_left r) → places_left r ≡ [] → ⊥
 some_left r p next none = not_over p (next ∙ ap first_read none)
 
-next_is : (r : Reading) (p : ℕ) → Read p ≡ first_read (places_left r) → p ≡ get_or (places_of r.sectors r.bytes) (length r.bytes / 512) 0
+pub next_is : (r : Reading) (p : ℕ) → Read p ≡ first_read (places_left r) → p ≡ get_or (places_of r.sectors r.bytes) (length r.bytes / 512) 0
 next_is r p next =
     let open_is = left_open r (some_left r p next) in
     let below = left_below r (some_left r p next) in
@@ -80,7 +80,7 @@ some_sector bytes P whole none some = at (cases_order (length bytes) 512) where
   at (inr (inl below)) = none (omega arith)
   at (inr (inr above)) = some (omega arith)
 
-taken_more : (n : ℕ) (bytes more : List ℕ) (p : ℕ) → length bytes % 512 ≡ 0 → length more ≡ 512 → p ≡ get_or (places_of n bytes) (length bytes / 512) 0
+pub taken_more : (n : ℕ) (bytes more : List ℕ) (p : ℕ) → length bytes % 512 ≡ 0 → length more ≡ 512 → p ≡ get_or (places_of n bytes) (length bytes / 512) 0
     → length bytes / 512 < extended_by bytes + 1
     → take (length (bytes ++ more) / 512) (places_of n (bytes ++ more)) ≡ take (length bytes / 512) (places_of n bytes) ++ p ∷ []
 taken_more n bytes more p whole sector is below =
@@ -232,7 +232,7 @@ from_got n d opening opening' log log' r r' p s went from next keeps logs gives 
     (record {
       sized = from.sized;
       whole = let whole : length r.bytes % 512 ≡ 0 = from.whole in omega (arith, length-append r.bytes s.0);
-      small = from.small;
+      small = λ few. absurd (let room = (left_open r (some_left r p next)).1 in let sized = from.sized in omega arith);
       told = told;
     })
   where

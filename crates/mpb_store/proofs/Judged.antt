@@ -124,14 +124,6 @@ pub exact_answer : (own : List ℕ) (r : Reading) (f : Found) → r.failed ≡ f
 exact_answer own r f well is g =
     (λ same. subst (IsAnswer own r) same (answer_from own r f well is), λ a. found_is_one own r.sectors r.bytes f g is (found_from own r g well a))
 
-pub unread_answer : (own : List ℕ) (r : Reading) → r.failed ≡ true → (g : Found) → (Unread ≡ g) ↔ IsAnswer own r g
-unread_answer own r failed g = (λ same. subst (IsAnswer own r) same failed, back g) where
-  back : (g : Found) → IsAnswer own r g → Unread ≡ g
-  back Unread a = refl
-  back Whole a = absurd (false≢true (sym a.0 ∙ failed))
-  back Blank a = absurd (false≢true (sym a.0 ∙ failed))
-  back (Torn fault) a = absurd (false≢true (sym a.0 ∙ failed))
-
 -- where bytes were read there is room for metadata
 room_from : (r : Reading) → IsReading r.sectors r.bytes → 216 ≤ length r.bytes → 18 ≤ r.sectors
 room_from r reading long = by_room r.sectors (18 ≤ r.sectors) (λ few. absurd (none (reading.none few))) (λ room. room) where

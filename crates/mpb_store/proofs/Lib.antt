@@ -3,4 +3,5 @@ mod Placing
 mod Judged
 mod Followed
 mod Told
+mod Looked
 pub mod Standing

@@ -2,7 +2,7 @@
 use Rattle.std.proofs.Common.{◌≡◌, ◌≢◌, ℕ, zero, suc, ◌+◌, ◌-◌, ◌/◌, ◌<◌, ◌≤◌, Bool, true, false, List, [], ◌∷◌, ◌++◌, length, take, drop, Option, Some, None, inl, refl, sym, ◌∙◌, ap, subst, arith}
 use Rattle.std.specs.Prelude.{◌↔◌, IfSome, slice_get}
 use Rattle.std.specs.List.{range_with_len}
-use Rattle.std.proofs.lemmas.List.{append-nil, length-drop, take_all, take-take}
+use Rattle.std.proofs.lemmas.List.{length-drop, take_all, take-take}
 use Rattle.std.proofs.lemmas.Bool.{false≢true}
 use Rattle.imsm_base.specs.declared.units.Sector.{Sector}
 use Rattle.imsm_base.specs.declared.units.Serial.{Serial}
@@ -18,7 +18,7 @@ use Rattle.mpb_store.specs.declared.answer.Found.TheVariants.{Whole, Blank, Torn
 use Rattle.mpb_store.specs.declared.reading.ReadStep.TheVariants.{Read, Over}
 use Rattle.mpb_store.specs.Reading.{Reading, first_read, extended_by, places_of, places_left, bytes_at}
 use Rattle.mpb_store.specs.Answers.{IsFound, IsAnswer, bytes_on}
-use Rattle.mpb_store.specs.Banks.{is_unread, sector_after, LogsReads, StandsSo, IsReadFrom, IsAnswerOn}
+use Rattle.mpb_store.specs.Banks.{is_unread, sector_after, StandsSo, IsReadFrom, IsAnswerOn}
 use Rattle.mpb_store.proofs.Placing.{by_room, unread_small, left_is, extended_sized}
 use Rattle.mpb_store.proofs.Judged.{found_is_one, found_from, block_of_disk}
 use Rattle.mpb_store.proofs.Followed.{extended_same}
@@ -29,10 +29,10 @@ places_by n count = anchor_place n ∷ range_with_len (anchor_place n - count) c
 front-size : (bytes : List ℕ) → size_in (take 512 bytes) ≡ size_in bytes
 front-size bytes = number_at-take 4 36 512 bytes (omega arith)
 
-front-extended : (bytes : List ℕ) → extended_by (take 512 bytes) ≡ extended_by bytes
+pub front-extended : (bytes : List ℕ) → extended_by (take 512 bytes) ≡ extended_by bytes
 front-extended bytes = extended_same (take 512 bytes) bytes (take-take 24 512 bytes (omega arith)) (front-size bytes)
 
-some_read : (r : Reading) → r.failed ≡ false → 18 ≤ r.sectors → places_left r ≡ [] → 0 < length r.bytes
+pub some_read : (r : Reading) → r.failed ≡ false → 18 ≤ r.sectors → places_left r ≡ [] → 0 < length r.bytes
 some_read r well room none = at (length r.bytes) refl where
   at : (k : ℕ) → length r.bytes ≡ k → 0 < length r.bytes
   at zero empty = absurd (let few = unread_small r well none empty in omega arith)
@@ -120,9 +120,6 @@ small_there own r f exact well few = (exact Blank).1 (well, inl few)
 
 -- THE LOOP
 
-pub reads_none : (d : ℕ) (log : Option (List Call)) → LogsReads log log d false
-reads_none d log now is = (now, [], is, sym (append-nil now), tt, refl)
-
 read_then : (f : Found) → f ≢ Unread → is_unread f ≡ false
 read_then Unread read = absurd (read refl)
 read_then Whole read = refl
@@ -135,14 +132,6 @@ unread_is own r f exact = at r.failed refl where
   at : (b : Bool) → r.failed ≡ b → b ≡ is_unread f
   at true failed = sym (ap is_unread ((exact Unread).1 failed))
   at false well = sym (read_then f (λ unread. false≢true (sym well ∙ (exact Unread).0 unread)))
-
-pub from_new : (n d : ℕ) (opening : Option (List (List Sector))) (log : Option (List Call)) → IsReadFrom n d opening log (record { sectors = n; bytes = []; failed = false })
-from_new n d opening log = record {
-  sized = refl;
-  whole = refl;
-  small = λ few. refl;
-  told = λ o l a b. record { anchor = λ some. absurd (omega arith); sectors = refl };
-}
 
 pub rose_later : (before mid now : ℕ) → before ≤ mid → Rose mid now → Rose before now
 rose_later before mid now later rose = omega arith

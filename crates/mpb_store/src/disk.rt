@@ -1,15 +1,16 @@
 //! The metadata block on a disk of a bank.
-ghost use Rattle.std.specs.Prelude.{◌≡◌, ◌<◌, ◌≤◌, ℕ, true, Some, IfSome, length, slice_get, slice_index};
+ghost use Rattle.std.specs.Prelude.{◌≡◌, ◌<◌, ◌≤◌, ℕ, true, List, Option, Some, IfSome, length, slice_get, slice_index};
 ghost use Rattle.imsm_base.specs.declared.bounds.TheConstants.{MAX_BLOCK_BYTES, METADATA_SECTORS};
 ghost use Rattle.imsm_base.specs.declared.units.Serial.{Serial as SerialBytes};
 ghost use Rattle.imsm_base.specs.Whole.{IsWholeDisk};
 ghost use Rattle.imsm_buffer.specs.Buffer.{parts_of};
+ghost use Rattle.device_log.specs.Log.{Call};
 ghost use Rattle.member_bank.specs.Told.{Keeps};
 ghost use Rattle.member_bank.specs.Faults.{Rose};
 ghost use Rattle.mpb_store.specs.declared.answer.Found.{Found};
 ghost use Rattle.mpb_store.specs.Reading.{places_left, first_read};
 ghost use Rattle.mpb_store.specs.Answers.{IsPastFront};
-ghost use Rattle.mpb_store.specs.Banks.{IsReadFrom, LogsReads, IsAnswerOn, bytes_left, is_unread, sector_after};
+ghost use Rattle.mpb_store.specs.Banks.{IsReadFrom, LogsReads, LogsReading, LogsLook, IsAnswerOn, bytes_left, is_unread, sector_after};
 
 use crate::answer::Found;
 use crate::reading::{ReadStep, ReadSteps};
@@ -25,6 +26,8 @@ fn read_next<B: Bank>(bank: &mut B, d: DiskNo, place: u64, steps: &mut ReadSteps
     ensures from { IsReadFrom (slice_index (B.sizes bank.old) d.0) d.0 (B.opening bank.new) (B.log bank.new) steps.new }
     ensures less { bytes_left steps.new < bytes_left steps.old }
     ensures reads { LogsReads (B.log bank.old) (B.log bank.new) d.0 steps.new.failed }
+    ensures places { (first : Option (List Call)) → LogsReading d.0 first (B.log bank.old) steps.old
+        → LogsReading d.0 first (B.log bank.new) steps.new }
     ensures opening { Keeps (B.opening bank.old) (B.opening bank.new) }
     ensures cause { steps.new.failed ≡ true → Rose (B.faults_of bank.old d.0) (B.faults_of bank.new d.0) }
     ensures later { (k : ℕ) → B.faults_of bank.old k ≤ B.faults_of bank.new k }
@@ -56,6 +59,9 @@ pub fn found<B: Bank>(bank: &mut B, d: DiskNo, into: &mut MpbBuf) -> Found
     ensures later { (k : ℕ) → B.faults_of bank.old k ≤ B.faults_of bank.new k }
     // Nothing but reads of this disk is done, and the answer is Unread exactly where one of them failed.
     ensures reads { LogsReads (B.log bank.old) (B.log bank.new) d.0 (is_unread result) }
+    // They are of the anchor, and then of the extended sectors that it speaks of in order, up to the first that fails.
+    ensures places { LogsLook (slice_index (B.sizes bank.old) d.0) d.0 (B.opening bank.new) (B.log bank.old) (B.log bank.new)
+        (is_unread result) }
     ensures opening { Keeps (B.opening bank.old) (B.opening bank.new) }
     ensures sizes { B.sizes bank.new ≡ B.sizes bank.old }
     ensures serials { B.serials bank.new ≡ B.serials bank.old }

@@ -6,8 +6,6 @@ mod disk;
 mod judge;
 mod reading;
 mod sectors;
-#[cfg(test)]
-mod tests;
 mod writing;
 
 pub use answer::{Found, StoreFault};

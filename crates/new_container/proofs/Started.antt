@@ -1,5 +1,5 @@
 -- The created block has the volumes that were asked for, and its disks are whole by it.
-use Rattle.std.proofs.Common.{◌≡◌, ℕ, zero, suc, ◌+◌, ◌^◌, ◌<◌, ◌≤◌, ◌==◌, ◌&&◌, not, Bool, true, false, cond, Option, Some, None, List, [], ◌∷◌, length, map, refl, sym, ◌∙◌, ap, subst, arith}
+use Rattle.std.proofs.Common.{◌≡◌, ℕ, zero, suc, ◌+◌, ◌^◌, ◌<◌, ◌≤◌, ◌==◌, ◌&&◌, max, not, Bool, true, false, cond, Option, Some, None, List, [], ◌∷◌, length, map, refl, sym, ◌∙◌, ap, subst, arith}
 use Rattle.std.specs.Prelude.{All, unwrap_or, find, nat_lt, slice_get}
 use Rattle.std.specs.Option.{IsSomeAnd, option_map_or}
 use Rattle.std.specs.List.{range_with_len, AllByRecursion}
@@ -29,25 +29,30 @@ and_false : (a b : Bool) → b ≡ false → (a && b) ≡ false
 and_false true b e = e
 and_false false b e = refl
 
--- the ranges of two volumes don't meet where the second lies behind the first
-apart_by : (count : ℕ) (first second : NewVolume) → rows_over first count < 2 ^ 41 →
-    nat_lt (pba_of (first_map (created_volume 1 (rows_over first count) second count)))
-    (pba_of (first_map (created_volume 0 0 first count)) + blocks_per_member_of (first_map (created_volume 0 0 first count))) ≡ false
-apart_by count first second small =
+-- a sector behind the rows of the first volume isn't in its range
+behind_first : (count start : ℕ) (first : NewVolume) → rows_over first count < 2 ^ 41 → rows_over first count ≤ start →
+    nat_lt start (pba_of (first_map (created_volume 0 0 first count)) + blocks_per_member_of (first_map (created_volume 0 0 first count))) ≡ false
+behind_first count start first small behind =
     let r : ℕ = rows_over first count in
-    let place : pba_of (first_map (created_volume 1 r second count)) ≡ r = halves r (omega arith) in
-    let start : pba_of (first_map (created_volume 0 0 first count)) ≡ 0 = halves 0 (omega arith) in
+    let place : pba_of (first_map (created_volume 0 0 first count)) ≡ 0 = halves 0 (omega arith) in
     let blocks : blocks_per_member_of (first_map (created_volume 0 0 first count)) ≡ r = halves r (omega arith) in
     le-ltb _ _ (omega arith)
 
+-- and the second volume begins there
 over_first : (count : ℕ) (first second : NewVolume) → rows_over first count < 2 ^ 41 → is_over (created_volume 0 0 first count) (created_volume 1 (rows_over first count) second count) ≡ false
-over_first count first second small = and_false _ _ (and_false _ _ (apart_by count first second small))
+over_first count first second small =
+    let m0 : Map = first_map (created_volume 0 0 first count) in
+    let m1 : Map = first_map (created_volume 1 (rows_over first count) second count) in
+    let start : ℕ = max (pba_of m0) (pba_of m1) in
+    let place : pba_of m1 ≡ rows_over first count = halves (rows_over first count) (omega arith) in
+    and_false _ _ (ap (λ (t : Bool). t && nat_lt start (pba_of m1 + blocks_per_member_of m1)) (behind_first count start first small (omega arith)))
 
 over_second : (count : ℕ) (first second : NewVolume) → rows_over first count < 2 ^ 41 → is_over (created_volume 1 (rows_over first count) second count) (created_volume 0 0 first count) ≡ false
 over_second count first second small =
     let m0 : Map = first_map (created_volume 0 0 first count) in
     let m1 : Map = first_map (created_volume 1 (rows_over first count) second count) in
-    and_false _ _ (ap (λ (t : Bool). t && nat_lt (pba_of m0) (pba_of m1 + blocks_per_member_of m1)) (apart_by count first second small))
+    let place : pba_of m1 ≡ rows_over first count = halves (rows_over first count) (omega arith) in
+    and_false _ _ (and_false _ _ (behind_first count (max (pba_of m1) (pba_of m0)) first small (omega arith)))
 
 abbrev over_at : List Volume → ℕ → Volume → ℕ → Bool
 over_at volumes k v other = not (other == k) && option_map_or (is_over v) (slice_get volumes other) false

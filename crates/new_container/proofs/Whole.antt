@@ -212,9 +212,6 @@ pub whole_is : (bytes now : List ℕ) (b : Block) → IsWholeBlock bytes b → n
 whole_is bytes now b w same =
     subst IsWhole (sym (ap given_block same ∙ given_is bytes b w)) (b, w)
 
-pub whole_short : (bytes : List ℕ) (b : Block) (n : ℕ) → IsWholeBlock bytes b → n ≡ length bytes → n ≤ 8192
-whole_short bytes b n w len = let most = w.sized.most in let given = w.given in omega arith
-
 -- what is checked is all of the bytes
 pub checked_is : (r : Result MpbRef MpbFault) (mpb : MpbRef) (bytes now : List ℕ) (b : Block) → IsWholeBlock bytes b → now ≡ bytes → r ≡ Ok mpb →
     IfOk r (λ m. block_bytes m ≡ given_block now) → block_bytes mpb ≡ bytes

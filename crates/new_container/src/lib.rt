@@ -7,8 +7,6 @@ mod container;
 mod disk;
 mod law;
 mod parts;
-#[cfg(test)]
-mod tests;
 mod volume;
 
 pub use block::new_block;

@@ -9,8 +9,6 @@ mod numbers;
 mod order;
 mod parse;
 mod pieces;
-#[cfg(test)]
-mod tests;
 
 pub use fault::{LimitKind, LineKind, ScriptFault};
 pub use law::first_wrong_word;

@@ -1,8 +1,6 @@
 //! What is said of a volume when its container is assembled: whether it starts, and whether a pass is wanted.
 #![tactic(auto)]
 
-#[cfg(test)]
-mod tests;
 mod verdict;
 
 pub use verdict::{VolumeVerdict, verdict_of, verdict_on};

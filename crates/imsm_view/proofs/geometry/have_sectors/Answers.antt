@@ -1,4 +1,4 @@
-use Rattle.std.proofs.Common.{◌≡◌, ◌+◌, not, Bool, true, false, refl, sym, ◌∙◌, ap, arith}
+use Rattle.std.proofs.Common.{◌+◌, sym, ◌∙◌, ap, arith}
 use Rattle.std.specs.List.{list_all}
 use Rattle.imsm_base.specs.declared.bounds.TheConstants.{METADATA_SECTORS}
 use Rattle.imsm_base.specs.Layout.{Block, Volume}
@@ -6,10 +6,6 @@ use Rattle.imsm_base.specs.Volumes.{has_sectors}
 use Rattle.imsm_codec.specs.Mpb.{block_of, volume_at}
 use Rattle.imsm_view.proofs.Members.{all_more, all_fails, all_taken}
 use Rattle.imsm_view.proofs.geometry.have_sectors.Goals as goal
-
-not_true : (b : Bool) → not b ≡ true → b ≡ false
-not_true true e = sym e
-not_true false e = refl
 
 pub loop-slot-preserved : goal.loop-slot-preserved
 loop-slot-preserved c =

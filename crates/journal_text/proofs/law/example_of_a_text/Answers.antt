@@ -5,8 +5,8 @@ use Rattle.std.proofs.lemmas.List.Elements.{All-append, All-from_recursion, All-
 use Rattle.byteorder.specs.Endian.{big_bytes}
 use Rattle.hex.specs.Hex.{encode_with}
 use Rattle.array_model.specs.Script.{sector_of}
-use Rattle.array_model.specs.Small.{the_value, worked_journal}
-use Rattle.journal_text.specs.Fits.{FitsEntry, IsByte, IsSector}
+use Rattle.array_model.specs.Small.{the_value}
+use Rattle.array_model.specs.Fits.{IsByte, IsSector}
 use Rattle.journal_text.proofs.law.example_of_a_text.Goals as goal
 
 All-repeat : (P : ℕ → Type 0) (n : ℕ) (xs : List ℕ) → All P xs → All P (repeat n xs)
@@ -21,4 +21,4 @@ unfolding digits encode_with
 returns-clause-text c = refl
 
 pub returns-clause-fits : goal.returns-clause-fits
-returns-clause-fits c = All-from_recursion FitsEntry worked_journal ((lit< tt, lit< tt), ((lit< tt, lit< tt), ((lit< tt, lit< tt), ((lit< tt, lit< tt), ((lit< tt, lit< tt), ((lit< tt, lit< tt), ((lit< tt, lit< tt), ((lit< tt, lit< tt), ((lit< tt, (lit< tt, tt)), ((lit< tt, lit< tt), ((lit< tt, (lit< tt, value_fits)), ((lit< tt, lit< tt), ((lit< tt, lit< tt), ((lit< tt, lit< tt), ((lit< tt, lit< tt), tt)))))))))))))))
+returns-clause-fits c = ((lit< tt, lit< tt), ((lit< tt, lit< tt), ((lit< tt, lit< tt), ((lit< tt, lit< tt), ((lit< tt, lit< tt), ((lit< tt, lit< tt), ((lit< tt, lit< tt), ((lit< tt, lit< tt), ((lit< tt, (lit< tt, tt)), ((lit< tt, lit< tt), ((lit< tt, (lit< tt, value_fits)), ((lit< tt, lit< tt), ((lit< tt, lit< tt), ((lit< tt, lit< tt), ((lit< tt, lit< tt), tt)))))))))))))))

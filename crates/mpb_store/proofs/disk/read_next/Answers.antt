@@ -3,6 +3,7 @@ use Rattle.std.specs.Prelude.{slice_index, is_ok, not}
 use Rattle.mpb_store.specs.Reading.{Reading}
 use Rattle.mpb_store.proofs.Placing.{left_open}
 use Rattle.mpb_store.proofs.Followed.{reads_one, some_left, next_inside, from_got, from_lost, less_got, less_lost}
+use Rattle.mpb_store.proofs.Looked.{reading_got, reading_lost}
 use Rattle.mpb_store.proofs.disk.read_next.Goals as goal
 
 pub read-requires-clause-place : goal.read-requires-clause-place
@@ -43,3 +44,18 @@ returns-in-Err-clause-reads g c =
     let B = g.B.Bank in
     let failed = ap (λ (r : Reading). r.failed) c.fed-in-Err.ensures.fed ∙ sym (ap (λ r. not (is_ok r)) c.in-Err.is) in
     reads_one c.args.d.0 c.args.place (B.log c.args.bank.now) (B.log c.read.new.self) _ c.fed-in-Err.new.self.failed failed c.read.ensures.logs
+
+pub returns-in-Ok-clause-places : goal.returns-in-Ok-clause-places
+returns-in-Ok-clause-places g c =
+    let B = g.B.Bank in
+    let sector : length c.read.new.into.0 ≡ 512 = c.fed.ensures.sector in
+    let went = ap is_ok c.in-Ok.is in
+    λ first so. reading_got c.args.d.0 first (B.log c.args.bank.now) (B.log c.read.new.self) c.args.steps.now c.fed.new.self c.args.place c.read.new.into _ c.requires.from.whole c.requires.next
+    went sector c.fed.ensures.fed c.read.ensures.logs so
+
+pub returns-in-Err-clause-places : goal.returns-in-Err-clause-places
+returns-in-Err-clause-places g c =
+    let B = g.B.Bank in
+    let lost = ap is_ok c.in-Err.is in
+    λ first so. reading_lost c.args.d.0 first (B.log c.args.bank.now) (B.log c.read.new.self) c.args.steps.now c.fed-in-Err.new.self c.args.place _ c.requires.next
+    lost c.fed-in-Err.ensures.fed c.read.ensures.logs so

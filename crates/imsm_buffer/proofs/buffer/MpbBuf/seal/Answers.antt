@@ -2,10 +2,10 @@ use Rattle.std.proofs.Common.{◌≡◌, ◌<◌, ◌^◌, List, length, ℕ, sy
 use Rattle.imsm_base.specs.Fields.{with_number_at}
 use Rattle.imsm_base.specs.Layout.{size_of, checksum_of}
 use Rattle.imsm_base.specs.Parts.{block_in}
-use Rattle.imsm_base.specs.Whole.{block_sum}
+use Rattle.imsm_base.specs.Whole.{IsSize, block_sum}
 use Rattle.imsm_base.specs.Edits.{sized, block_sealed}
 use Rattle.imsm_buffer.specs.Buffer.{Buffer, IsKept, parts_of}
-use Rattle.imsm_buffer.proofs.Kept.{sealed-kept, sealed-block, sealed-parts, seal-made}
+use Rattle.imsm_buffer.proofs.Kept.{sealed-kept, sealed-block, sealed-parts, sealed-size, seal-made}
 use Rattle.imsm_buffer.proofs.buffer.MpbBuf.seal.Goals as goal
 
 -- the write of the size
@@ -31,6 +31,14 @@ returns-clause-block c =
     (c.sum_of-sum.ensures ∙ ap block_sum (c.deref.ensures.value ∙ sym c.deref_mut-2.ensures.value)) c.put_u32-2.ensures in
     ap block_in new ∙ sealed-block items c.self.invariant.laid
     ∙ ap (λ (x : Buffer). block_sealed (parts_of x) (length x.bytes) (block_sum (sized x.bytes))) c.self.view_is
+
+pub returns-clause-sized : goal.returns-clause-sized
+returns-clause-sized c =
+    let items : List ℕ = c.self.inside.bytes.items in
+    let first = sized_as c.put_u32.new.bytes c.deref_mut.result.now items c.len-size.result c.self.inside.bytes.len c.put_u32.ensures c.deref_mut.ensures.value c.len-size.ensures c.self.inside.bytes.ok.0 in
+    let new = seal-made c.self.inside.bytes c.put_u32.new.bytes c.put_u32-2.new.bytes c.deref_mut-2.result.now c.sum_of-sum.result c.self.invariant.laid first c.deref_mut-2.ensures.value
+    (c.sum_of-sum.ensures ∙ ap block_sum (c.deref.ensures.value ∙ sym c.deref_mut-2.ensures.value)) c.put_u32-2.ensures in
+    subst (λ (x : List ℕ). IsSize (size_of (block_in x))) (sym new) (sealed-size items c.self.inside.room c.self.inside.bytes.cap c.self.invariant)
 
 pub returns-clause-given : goal.returns-clause-given
 returns-clause-given c =
