@@ -57,6 +57,7 @@ fn makes_two_mirrors(rt: HostRuntime) -> Result<(), Fail> {
     let (ended, written, disks) = Case::of(TWO_MIRRORS).run_on(alloc, used(alloc, 4096)?)?;
     assert_eq!(rt; written.as_slice(), b"created e5c2554f\n".as_slice());
     assert_eq!(rt; ended, Status(0));
+    assert_eq!(rt; disks.len(), 2);
     for disk in &disks {
         assert!(rt; are_of(disk, 0, 2048, 0));
         assert!(rt; are_of(disk, 2048, 4093, OLD));

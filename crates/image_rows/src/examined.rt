@@ -1,5 +1,5 @@
 //! `examine` over images that this project made.
-use command_cases::{Case, NEW_MIRROR, changed, holding, pair};
+use command_cases::{Case, NEW_MIRROR, changed, holding, member, pair};
 use image_run::Status;
 use std::test::Fail;
 
@@ -75,6 +75,58 @@ slot 1 1 in
         assert_eq!(rt; written.as_slice(), lines.as_bytes());
         assert_eq!(rt; ended, Status(status));
     }
+    Ok(())
+}
+
+/// A block that isn't whole, or isn't the disk's, and what can't be read to its end.
+#[test]
+fn says_what_is_wrong(rt: HostRuntime) -> Result<(), Fail> {
+    let alloc = rt.alloc();
+    let rows: [(usize, usize, &[(usize, &[u8])], &[u64], &str); 9] = [
+        (4096, 212, &[], &[], "torn size 212\n"),
+        (4096, 480, &[(0x38, &[0])], &[], "torn counts 0 1\n"),
+        (4096, 480, &[(0x39, &[2])], &[], "torn volume 1\n"),
+        // both records have the serial A
+        (4096, 480, &[(264, &[0x41])], &[], "torn serials 0 1\n"),
+        // the record of A names 2 ^ 32 sectors more
+        (
+            4096,
+            480,
+            &[(248, &[1])],
+            &[],
+            "torn small 4294971392 4096\n",
+        ),
+        (4095, 480, &[], &[], "torn small 4096 4095\n"),
+        // unsigned, and a disk without room for metadata
+        (4096, 480, &[(23, &[0])], &[], "blank\n"),
+        (17, 480, &[], &[], "blank\n"),
+        // the extended sector can't be read
+        (4096, 600, &[], &[2], "unread\n"),
+    ];
+    for (sectors, size, changes, calls, lines) in rows {
+        let block = changed(size, changes);
+        let block = block.get(..size).unwrap_or(&[]);
+        let files = vec![in alloc; holding(alloc, "a", sectors, block)?]?;
+        let case = Case {
+            calls,
+            ..Case::of(&["examine", "A=a"])
+        };
+        let (ended, written) = case.run(alloc, files)?;
+        assert_eq!(rt; written.as_slice(), lines.as_bytes());
+        assert_eq!(rt; ended, Status(3));
+    }
+    Ok(())
+}
+
+/// A byte was changed behind the sum.
+#[test]
+fn says_the_sum(rt: HostRuntime) -> Result<(), Fail> {
+    let alloc = rt.alloc();
+    let files = vec![in alloc; member(alloc, "a", &[(0x40, 0x5a)])?]?;
+    let (ended, written) = Case::of(&["examine", "A=a"]).run(alloc, files)?;
+    let line = "torn checksum 4770510b 4770510c\n";
+    assert_eq!(rt; written.as_slice(), line.as_bytes());
+    assert_eq!(rt; ended, Status(3));
     Ok(())
 }
 

@@ -171,6 +171,7 @@ fn takes_other_bytes_behind_the_block(rt: HostRuntime) -> Result<(), Fail> {
     let (ended, written, disks) = case.run_on(alloc, files)?;
     assert_eq!(rt; ended, Status(0));
     assert_eq!(rt; written.as_slice(), WRITTEN_AND_READ.as_bytes());
+    assert_eq!(rt; disks.len(), 2);
     for disk in &disks {
         assert_eq!(rt; part_of(disk, 4094, 480, 512), [0; 32].as_slice());
     }
