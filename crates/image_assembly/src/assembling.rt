@@ -1,7 +1,8 @@
 //! The verdict on the disks of a bank.
 ghost use Rattle.std.specs.Prelude.{◌≡◌, ◌≤◌, ℕ, List, [], IfSome, IfOk};
 ghost use Rattle.member_bank.specs.Told.{Keeps};
-ghost use Rattle.image_outside.specs.Outside.{HasOnlyReads};
+ghost use Rattle.image_outside.specs.Shelves.{HasOnlyReads};
+ghost use Rattle.image_outside.specs.Told.{bank_told};
 ghost use Rattle.assembly.specs.declared.seen.Seen.{Seen as SeenDisk};
 ghost use Rattle.assembly.specs.Verdicts.{IsVerdict};
 ghost use Rattle.image_assembly.specs.Seen.{AreSeen};
@@ -18,7 +19,7 @@ pub fn assemble<B: Bank>(alloc: Global, bank: &mut B) -> Result<Verdict, Assembl
     ensures verdict { IfOk result (λ verdict. (seen : List SeenDisk)
         × AreSeen (B.serials bank.old) (B.sizes bank.old) (B.opening bank.new) (B.log bank.new) (B.faults_of bank.old) (B.faults_of bank.new) seen
         × IsVerdict seen verdict) }
-    ensures reads { HasOnlyReads B.log bank.new }
+    ensures reads { HasOnlyReads (bank_told B.Bank bank.new) }
     ensures opening { Keeps (B.opening bank.old) (B.opening bank.new) }
     ensures later { (k : ℕ) → B.faults_of bank.old k ≤ B.faults_of bank.new k }
     ensures sizes { B.sizes bank.new ≡ B.sizes bank.old }

@@ -4,7 +4,8 @@ ghost use Rattle.imsm_base.specs.declared.bounds.TheConstants.{MAX_BLOCK_BYTES};
 ghost use Rattle.member_bank.specs.Told.{Keeps};
 ghost use Rattle.mpb_store.specs.declared.answer.Found.TheVariants.{Whole};
 ghost use Rattle.mpb_store.specs.Banks.{LogsReads};
-ghost use Rattle.image_outside.specs.Outside.{HasOnlyReads};
+ghost use Rattle.image_outside.specs.Shelves.{HasOnlyReads};
+ghost use Rattle.image_outside.specs.Told.{bank_told};
 ghost use Rattle.image_assembly.specs.Seen.{AreSeen, IsSeen, bytes_of, found_of};
 
 use assembly::{Seen, SeenAs};
@@ -69,7 +70,7 @@ fn see<B: Bank>(
 pub(crate) fn see_all<B: Bank>(alloc: Global, bank: &mut B) -> Result<Vec<Seen>, AllocError>
     requires { IfSome (B.log bank.old) (λ l. l ≡ []) }
     ensures seen { IfOk result (λ seen. AreSeen (B.serials bank.old) (B.sizes bank.old) (B.opening bank.new) (B.log bank.new) (B.faults_of bank.old) (B.faults_of bank.new) seen.items) }
-    ensures reads { HasOnlyReads B.log bank.new }
+    ensures reads { HasOnlyReads (bank_told B.Bank bank.new) }
     ensures opening { Keeps (B.opening bank.old) (B.opening bank.new) }
     ensures later { (k : ℕ) → B.faults_of bank.old k ≤ B.faults_of bank.new k }
     ensures sizes { B.sizes bank.new ≡ B.sizes bank.old }

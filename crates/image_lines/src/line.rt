@@ -3,6 +3,7 @@ ghost use Rattle.std.specs.Prelude.{◌≤◌, OnOk, OnErr};
 ghost use Rattle.std.specs.List.{flat_map};
 ghost use Rattle.image_outside.specs.Outside.{Adds, BreaksOff};
 ghost use Rattle.image_outside.specs.Endings.{Ends, Prints};
+ghost use Rattle.image_outside.specs.Views.{sink_told};
 ghost use Rattle.imsm_text.specs.Text.{line, spaced, word_text, words_text};
 ghost use Rattle.image_lines.specs.Lines.{spaced_text};
 
@@ -61,8 +62,8 @@ pub fn write_line<K: Sink>(sink: &mut K, first: &[u8], words: &[Word<'_>]) -> Re
 
 /// Ends with a status and a line, or with a write fault where it can't be written.
 pub fn end_line<K: Sink>(sink: &mut K, first: &[u8], words: &[Word<'_>], status: Status) -> Status
-    ensures { Ends (K.written sink.old) (K.written sink.new) (K.faults_of sink.old) (K.faults_of sink.new)
-        (Prints (line first.now (words_text words.now)) status.0 (K.written sink.old)) result.0 }
+    ensures { Ends (sink_told K.Sink sink.old) (sink_told K.Sink sink.new)
+        (Prints (line first.now (words_text words.now)) status.0) result.0 }
 {
     status_after(write_line(sink, first, words), status)
 }

@@ -1,47 +1,38 @@
 -- How a command ends, by what became of its lines.
-use Rattle.std.proofs.Common.{◌≡◌, ℕ, inl, inr, List, ◌++◌, Option, Some, None, refl, sym, subst}
+use Rattle.std.proofs.Common.{◌≡◌, ℕ, inl, inr, List, refl, subst, sym}
 use Rattle.std.specs.Prelude.{OnErr, OnOk, Result, Ok, Err}
-use Rattle.std.specs.Option.{option_map}
 use Rattle.image_outside.specs.Outside.{Adds, BreaksOff}
-use Rattle.image_outside.specs.Endings.{Ends, EndsIfMemory, IsCutShort, Prints}
-
--- what would be told, had all lines been written
-adds_all : (old : Option (List ℕ)) (lines : List ℕ) → Adds old (option_map (λ told. told ++ lines) old) lines
-adds_all None lines = λ now is. absurd cc
-adds_all (Some told) lines = λ now is. (told, refl, cc)
-
--- where the lines were cut short, so was what comes of them
-pub cut_short : {old new : Option (List ℕ)} {before now : ℕ} {Outcome : Option (List ℕ) → ℕ → Type 0} (lines : List ℕ) (status : ℕ)
-    → ((full : Option (List ℕ)) → Adds old full lines → Outcome full status) → BreaksOff old new before now lines → IsCutShort old new before now Outcome
-cut_short {old} lines status goes breaks = record {
-  bytes = lines;
-  status = status;
-  breaks = breaks;
-  ends = goes (option_map (λ told. told ++ lines) old) (adds_all old lines);
-}
+use Rattle.image_outside.specs.Told.{SinkTold}
+use Rattle.image_outside.specs.Endings.{Ends, EndsIfMemory, IsCutShort, IsWritten, Prints}
 
 -- lines that were written or cut short, and the status after them
-pub ends_after : {E : Type 0} (old new : Option (List ℕ)) (before now : ℕ) (lines : List ℕ) (status result : ℕ) (r : Result (Unit {0}) E)
-    → OnOk r (Adds old new lines) → OnErr r (BreaksOff old new before now lines) → OnOk r (result ≡ status) → OnErr r (result ≡ 6)
-    → Ends old new before now (Prints lines status old) result
-ends_after old new before now lines status result (Ok value) adds breaks is fault = inl (is, adds)
-ends_after old new before now lines status result (Err failed) adds breaks is fault = inr (fault, cut_short lines status (λ full all. (refl, all)) breaks)
-
--- what comes of lines and a status comes of their end
-pub ends_so : (old new : Option (List ℕ)) (before now : ℕ) (Outcome : Option (List ℕ) → ℕ → Type 0) (lines : List ℕ) (status result : ℕ)
-    → ((full : Option (List ℕ)) → Adds old full lines → Outcome full status) → Ends old new before now (Prints lines status old) result → Ends old new before now Outcome result
-ends_so old new before now Outcome lines status result goes (inl (is, adds)) = inl (subst (Outcome new) (sym is) (goes new adds))
-ends_so old new before now Outcome lines status result goes (inr (is, cut)) =
-    inr (is, record { bytes = cut.bytes; status = cut.status; breaks = cut.breaks; ends = subst (Outcome _) (sym cut.ends.0) (goes _ cut.ends.1) })
-
--- an end is one of a command that may want memory
-pub ends_with_memory : (old new : Option (List ℕ)) (before now : ℕ) (Outcome : Option (List ℕ) → ℕ → Type 0) (status : ℕ) → Ends old new before now Outcome status → EndsIfMemory old new before now Outcome status
-ends_with_memory old new before now Outcome status (inl so) = inl so
-ends_with_memory old new before now Outcome status (inr cut) = inr (inl cut)
+pub ends_after : {E : Type 0} (old new : SinkTold) (lines : List ℕ) (status result : ℕ) (r : Result (Unit {0}) E)
+    → OnOk r (Adds old.written new.written lines) → OnErr r (BreaksOff old.written new.written old.faults new.faults lines)
+    → OnOk r (result ≡ status) → OnErr r (result ≡ 6) → Ends old new (Prints lines status) result
+ends_after old new lines status result (Ok value) adds breaks is fault =
+    inl (record { lines = lines; ends = record { lines_are = refl; status_is = is }; adds = adds })
+ends_after old new lines status result (Err failed) adds breaks is fault =
+    inr (fault, record { lines = lines; status = status; ends = record { lines_are = refl; status_is = refl }; breaks = breaks })
 
 -- what comes of one outcome comes of the end with it
-pub ends_map : (old new : Option (List ℕ)) (before now : ℕ) (One Other : Option (List ℕ) → ℕ → Type 0) (status : ℕ) → ((full : Option (List ℕ)) (s : ℕ) → One full s → Other full s)
-    → EndsIfMemory old new before now One status → EndsIfMemory old new before now Other status
-ends_map old new before now One Other status goes (inl so) = inl (goes new status so)
-ends_map old new before now One Other status goes (inr (inl (is, cut))) = inr (inl (is, record { bytes = cut.bytes; status = cut.status; breaks = cut.breaks; ends = goes _ cut.status cut.ends }))
-ends_map old new before now One Other status goes (inr (inr none)) = inr (inr none)
+pub ends_so : (old new : SinkTold) (One Other : List ℕ → ℕ → Type 0) (status : ℕ) → ((lines : List ℕ) (s : ℕ) → One lines s → Other lines s)
+    → Ends old new One status → Ends old new Other status
+ends_so old new One Other status goes (inl so) = inl (record { lines = so.lines; ends = goes so.lines status so.ends; adds = so.adds })
+ends_so old new One Other status goes (inr (is, cut)) =
+    inr (is, record { lines = cut.lines; status = cut.status; ends = goes cut.lines cut.status cut.ends; breaks = cut.breaks })
+
+-- the same of a command that may want memory
+pub ends_map : (old new : SinkTold) (One Other : List ℕ → ℕ → Type 0) (status : ℕ) → ((lines : List ℕ) (s : ℕ) → One lines s → Other lines s)
+    → EndsIfMemory old new One status → EndsIfMemory old new Other status
+ends_map old new One Other status goes (inl so) = inl (ends_so old new One Other status goes so)
+ends_map old new One Other status goes (inr none) = inr none
+
+-- what is so of these lines and this status is so of those that are printed
+printed : (lines : List ℕ) (status : ℕ) (Outcome : List ℕ → ℕ → Type 0) → Outcome lines status → (told : List ℕ) (result : ℕ) → Prints lines status told result → Outcome told result
+printed lines status Outcome so told result is =
+    subst (λ (l : List ℕ). Outcome l result) (sym is.lines_are) (subst (Outcome lines) (sym is.status_is) so)
+
+-- a command that prints lines with a status ends so, where these are an outcome
+pub ends_as : (old new : SinkTold) (lines : List ℕ) (status : ℕ) (Outcome : List ℕ → ℕ → Type 0) (result : ℕ) → Outcome lines status
+    → Ends old new (Prints lines status) result → Ends old new Outcome result
+ends_as old new lines status Outcome result so ends = ends_so old new (Prints lines status) Outcome result (printed lines status Outcome so) ends

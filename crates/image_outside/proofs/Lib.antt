@@ -1,3 +1,4 @@
 pub mod Written
 pub mod Taken
 pub mod Ended
+pub mod Opened

@@ -1,3 +1,6 @@
 pub mod Outside
+pub mod Told
+pub mod Shelves
+pub mod Views
 pub mod Endings
 pub mod Memory

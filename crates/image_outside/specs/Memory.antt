@@ -1,12 +1,14 @@
 -- What contracts see of the outside in memory.
-use Rattle.std.specs.Prelude.{ℕ, ◌-◌, ◌==◌, ◌&&◌, ◌||◌, nat_lt, Bool, List, [], ◌∷◌, ◌++◌, length, take, drop, if◌then◌else◌, Option, None, string_bytes}
+use Rattle.std.specs.Prelude.{ℕ, ◌-◌, ◌==◌, ◌&&◌, ◌||◌, nat_lt, Bool, List, [], ◌∷◌, ◌++◌, length, map, take, drop, slice_index, if◌then◌else◌, Option, Some, None, String, string_bytes}
 use Rattle.std.specs.List.{list_any, find}
 use Rattle.std.specs.Str.{bytes_eq}
 use Rattle.std.specs.Option.{option_map}
 use Rattle.imsm_base.specs.declared.units.Sector.{Sector}
 use Rattle.imsm_base.specs.declared.units.Serial.{Serial}
 use Rattle.member_bank.specs.Faults.{next_count}
+use Rattle.member_bank.specs.Contents.{sizes_of}
 use Rattle.member_bank.specs.Memory.{MemState}
+use Rattle.image_outside.specs.Told.{BankTold}
 use Rattle.image_outside.specs.declared.shelf.MemFile.{MemFile}
 
 -- the bytes that are left, the numbers of the calls that fail, and the calls and the faults so far
@@ -46,10 +48,22 @@ written_to s piece = record s { calls = next_count s.calls; written = s.written 
 abbrev pub refused_by : SinkState → SinkState
 refused_by s = record s { calls = next_count s.calls; faults = next_count s.faults }
 
--- the files, the bank but while it is lent, the numbers of the opens that fail, and the opens and the faults so far
+-- what a bank in memory tells
+abbrev pub mem_told : MemState → BankTold
+mem_told b = record {
+  serials = b.serials;
+  sizes = sizes_of b.present;
+  opening = Some b.opening;
+  log = b.log;
+  faults = λ d. slice_index b.faults d;
+}
+
+-- the files, the bank but while it is lent, the paths of its disks, the numbers of the opens that fail, and the opens and the
+-- faults so far
 pub record ShelfState : Type 0 where
   pub files : List MemFile
   pub bank : Option MemState
+  pub paths : List (List ℕ)
   pub fails : List ℕ
   pub opens : ℕ
   pub faults : ℕ
@@ -75,8 +89,16 @@ with_sectors serial sectors b = record b {
 }
 
 -- the shelf after an open that went through, that failed, and that found no memory
-abbrev pub with_file : ShelfState → Serial → List Sector → ShelfState
-with_file s serial sectors = record s { opens = next_count s.opens; bank = option_map (with_sectors serial sectors) s.bank }
+abbrev pub with_file : ShelfState → Serial → List ℕ → List Sector → ShelfState
+with_file s serial path sectors = record s {
+  opens = next_count s.opens;
+  bank = option_map (with_sectors serial sectors) s.bank;
+  paths = s.paths ++ path ∷ [];
+}
+
+-- paths by their bytes
+abbrev pub paths_of : {A : Type 0} → List (String A) → List (List ℕ)
+paths_of {A} paths = map (λ (p : String A). string_bytes p) paths
 
 abbrev pub unopened : ShelfState → ShelfState
 unopened s = record s { opens = next_count s.opens; faults = next_count s.faults }

@@ -1,12 +1,9 @@
--- What the outside tells: bytes that are left or were written, and the bank that a shelf holds. Source: this project's
--- own.
-use Rattle.std.specs.Prelude.{◌≡◌, ◌≢◌, ℕ, List, [], ◌∷◌, ◌++◌, length, All, Option, Some, IfSome, ⊤}
+-- What the outside tells: bytes that are left or were written, and the calls on disks. Source: this project's own.
+use Rattle.std.specs.Prelude.{◌≡◌, ◌≢◌, ℕ, List, ◌++◌, length, All, Option, Some, IfSome, [], ⊤}
 use Rattle.std.specs.List.{AllByRecursion}
-use Rattle.imsm_base.specs.declared.units.Sector.{Sector}
 use Rattle.imsm_base.specs.declared.units.Serial.{Serial}
 use Rattle.device_log.specs.Log.{Call, What, Read, Write, Sync}
 use Rattle.member_bank.specs.Faults.{Rose}
-use Rattle.member_bank.specs.Told.{Keeps}
 
 -- bytes that are told after a call were told before it, and have these bytes at their end
 abbrev pub Adds : Option (List ℕ) → Option (List ℕ) → List ℕ → Type 0
@@ -48,26 +45,6 @@ IsRead Sync = ⊥
 abbrev pub OnlyReads : List Call → Type 0
 OnlyReads log = AllByRecursion (λ c. IsRead c.what) log
 
--- nothing but reads was made of a bank's disks, where it tells its log
-abbrev pub HasOnlyReads : {B : Type 0} → (B → Option (List Call)) → B → Type 0
-HasOnlyReads log bank = IfSome (log bank) OnlyReads
-
 -- no disk has this serial
 abbrev pub IsNew : Serial → List Serial → Type 0
 IsNew serial serials = All (λ s. s ≢ serial) serials
-
--- The bank has one disk more, at the end, with this serial. Opening a disk logs nothing.
-pub record HasOneMore {B : Type 0} (serials : B → List Serial) (opening : B → Option (List (List Sector))) (log : B → Option (List Call)) (serial : Serial) (old new : B) : Type 0 where
-  pub named : serials new ≡ serials old ++ serial ∷ []
-  pub opened : (now : List (List Sector)) → opening new ≡ Some now → (before : List (List Sector)) × (disk : List Sector) × (opening old ≡ Some before) × (now ≡ before ++ disk ∷ [])
-  pub logged : Keeps (log old) (log new)
-
--- a shelf on which nothing was opened: it holds a bank of no disks, which made no call
-pub record IsUnused {B : Type 0} (serials : B → List Serial) (log : B → Option (List Call)) (bank : B) : Type 0 where
-  pub empty : serials bank ≡ []
-  pub fresh : IfSome (log bank) (λ l. l ≡ [])
-
--- a bank of these disks, which made no call
-pub record HoldsFresh {B : Type 0} (serials : B → List Serial) (log : B → Option (List Call)) (names : List Serial) (bank : B) : Type 0 where
-  pub named : serials bank ≡ names
-  pub fresh : IfSome (log bank) (λ l. l ≡ [])

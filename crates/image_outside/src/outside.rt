@@ -1,9 +1,11 @@
 //! The outside as traits: where a command's script comes from, where its lines go, and where its disks come from.
-ghost use Rattle.std.specs.Prelude.{◌≡◌, ℕ, ◌<◌, ◌≤◌, List, Option, Some, None, length, take, drop, IsSome, IfOk, IfSome, OnOk, OnErr};
+ghost use Rattle.std.specs.Prelude.{◌≡◌, ℕ, ◌<◌, ◌≤◌, List, [], ◌∷◌, ◌++◌, Option, Some, None, length, take, drop, IsSome, IfOk, IfSome, OnOk, OnErr};
 ghost use Rattle.std.specs.Option.{IsSomeAnd};
 ghost use Rattle.member_bank.specs.Faults.{Rose};
 ghost use Rattle.member_bank.specs.Told.{Keeps};
-ghost use Rattle.image_outside.specs.Outside.{Adds, BreaksOff, Takes, IsAtEnd, IsNew, HasOneMore};
+ghost use Rattle.image_outside.specs.Outside.{Adds, BreaksOff, Takes, IsAtEnd, IsNew};
+ghost use Rattle.image_outside.specs.Told.{bank_told};
+ghost use Rattle.image_outside.specs.Shelves.{HasOneMore};
 
 use imsm_base::{DiskNo, MAX_DISKS, Serial};
 use member_bank::{Bank, Failed};
@@ -70,6 +72,9 @@ pub trait Shelf {
     /// The bank, but while it is lent.
     ghost held: { Self → Option Self.Held };
 
+    /// The paths of the files that were opened, in their order.
+    ghost paths: { Self → List (List ℕ) };
+
     /// How often a file couldn't be opened.
     ghost faults_of: { Self → ℕ };
 
@@ -80,8 +85,10 @@ pub trait Shelf {
         requires new { IfSome (held self.old) (λ b. IsNew serial (Self.Held.serials b)) }
         ensures number { IfOk result (λ d. IfSome (held self.old) (λ b. d.0 ≡ length (Self.Held.serials b))) }
         ensures opened { OnOk result (IsSomeAnd (held self.old) (λ old. IsSomeAnd (held self.new)
-            (HasOneMore Self.Held.serials Self.Held.opening Self.Held.log serial old))) }
+            (λ new. HasOneMore serial (bank_told Self.Held.Bank old) (bank_told Self.Held.Bank new)))) }
+        ensures path { OnOk result (paths self.new ≡ paths self.old ++ file.now ∷ []) }
         ensures refused { OnErr result (held self.new ≡ held self.old) }
+        ensures unlisted { OnErr result (paths self.new ≡ paths self.old) }
         ensures later { faults_of self.old ≤ faults_of self.new }
         ensures failed { result ≡ Err ShelfFault.Failed → Rose (faults_of self.old) (faults_of self.new) };
 
@@ -90,12 +97,14 @@ pub trait Shelf {
         requires { IsSome (held self.old) }
         ensures bank { held self.old ≡ Some result }
         ensures lent { held self.new ≡ None }
+        ensures paths { paths self.new ≡ paths self.old }
         ensures faults { faults_of self.new ≡ faults_of self.old };
 
     /// Takes the bank back.
     fn hand_back(&mut self, bank: Self::Held)
         requires { held self.old ≡ None }
         ensures bank { held self.new ≡ Some bank }
+        ensures paths { paths self.new ≡ paths self.old }
         ensures faults { faults_of self.new ≡ faults_of self.old };
 
     /// How often a file couldn't be opened.

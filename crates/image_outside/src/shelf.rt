@@ -1,10 +1,11 @@
 //! A shelf of files in memory.
-ghost use Rattle.std.specs.Prelude.{◌≡◌, ◌≢◌, ◌+◌, ◌<◌, ◌≤◌, ◌↔◌, ℕ, [], ◌∷◌, Some, None, Err, length, map, is_none, IsTrue, IsSome, IsNone, IfOk, IfSome, OnOk, OnErr};
+ghost use Rattle.std.specs.Prelude.{◌≡◌, ◌≢◌, ◌+◌, ◌<◌, ◌≤◌, ◌↔◌, ℕ, [], ◌∷◌, ◌++◌, Some, None, Err, length, map, is_none, IsTrue, IsSome, IsNone, IfOk, IfSome, OnOk, OnErr, string_bytes, vec_len, vec_capacity};
 ghost use Rattle.std.specs.Option.{IsSomeAnd, option_copied, option_map};
 ghost use Rattle.member_bank.specs.Faults.{Rose};
 ghost use Rattle.member_bank.specs.Memory.{MemState, opened};
-ghost use Rattle.image_outside.specs.Outside.{IsNew, HasOneMore};
-ghost use Rattle.image_outside.specs.Memory.{ShelfState, file_of, found_at, found_by, with_sectors, with_file, unopened, unfed};
+ghost use Rattle.image_outside.specs.Outside.{IsNew};
+ghost use Rattle.image_outside.specs.Shelves.{HasOneMore};
+ghost use Rattle.image_outside.specs.Memory.{ShelfState, file_of, found_at, found_by, mem_told, paths_of, with_sectors, with_file, unopened, unfed};
 
 use crate::{MemFault, Shelf, ShelfFault};
 use imsm_base::{DiskNo, MAX_DISKS, Sector, Serial};
@@ -24,17 +25,18 @@ pub struct MemFile {
 pub struct MemShelf {
     files: Vec<MemFile>,
     bank: Option<MemBank>,
+    paths: Vec<String>,
     fails: Vec<u64>,
     opens: u64,
     faults: u64,
 }
 
 impl Model for MemShelf {
-    ghost use Rattle.image_outside.specs.Memory.{ShelfState};
+    ghost use Rattle.image_outside.specs.Memory.{ShelfState, paths_of};
 
     ghost Value = { ShelfState };
 
-    ghost view = { λ s. record { files = s.files.items; bank = s.bank; fails = s.fails.items; opens = s.opens; faults = s.faults } };
+    ghost view = { λ s. record { files = s.files.items; bank = s.bank; paths = paths_of s.paths.items; fails = s.fails.items; opens = s.opens; faults = s.faults } };
 }
 
 /// The file of a name.
@@ -68,6 +70,7 @@ fn add(
     requires few { length bank.old.serials < MAX_DISKS }
     requires distinct { IsNew serial bank.old.serials }
     ensures ok { OnOk result (bank.new ≡ with_sectors serial sectors.now bank.old) }
+    ensures more { OnOk result (HasOneMore serial (mem_told bank.old) (mem_told bank.new)) }
     ensures err { OnErr result (bank.new ≡ bank.old) }
 {
     let sectors = sectors.to_vec(alloc)?;
@@ -86,6 +89,7 @@ fn add_to(
     requires distinct { IfSome bank.old (λ b. IsNew serial b.serials) }
     ensures number { IfOk result (λ d. IfSome bank.old (λ b. d.0 ≡ length b.serials)) }
     ensures ok { OnOk result (bank.new ≡ option_map (with_sectors serial sectors.now) bank.old) }
+    ensures more { OnOk result (IsSomeAnd bank.old (λ old. IsSomeAnd bank.new (λ new. HasOneMore serial (mem_told old) (mem_told new)))) }
     ensures err { OnErr result (bank.new ≡ bank.old) }
     ensures memory { result ≢ Err ShelfFault.Failed }
 {
@@ -99,6 +103,17 @@ fn add_to(
     }
 }
 
+/// A path, and room for it behind others.
+fn new_path(alloc: Global, paths: &mut Vec<String>, path: &str) -> Result<String, ShelfFault>
+    ensures same { IfOk result (λ p. string_bytes p ≡ path.now) }
+    ensures kept { paths.new.items ≡ paths.old.items }
+    ensures room { OnOk result (vec_len paths.new < vec_capacity paths.new) }
+    ensures memory { result ≢ Err ShelfFault.Failed }
+{
+    paths.reserve(1).map_err(|_| ShelfFault::Memory)?;
+    String::from_str(alloc, path).map_err(|_| ShelfFault::Memory)
+}
+
 impl MemShelf {
     /// A shelf of these files, on which nothing is opened. The opens of these numbers, counted from 1, fail. The bank
     /// has this fail list and room for its log.
@@ -109,7 +124,7 @@ impl MemShelf {
         device: Vec<FailAt>,
         room: LogRoom,
     ) -> Result<MemShelf, MemFault>
-        ensures { IfOk result (λ s. s ≡ record { files = files.items; bank = Some (opened [] device.items room); fails = fails.items; opens = 0; faults = 0 }) }
+        ensures { IfOk result (λ s. s ≡ record { files = files.items; bank = Some (opened [] device.items room); paths = []; fails = fails.items; opens = 0; faults = 0 }) }
     {
         let bank = MemBank::new(alloc, Vec::new(alloc), device, room).map_err(
             |_| MemFault::Memory,
@@ -117,6 +132,7 @@ impl MemShelf {
         Ok(MemShelf {
             files,
             bank: Some(bank),
+            paths: Vec::new(alloc),
             fails,
             opens: 0,
             faults: 0,
@@ -138,6 +154,8 @@ impl Shelf for MemShelf {
 
     ghost held = { λ s. s.bank };
 
+    ghost paths = { λ s. s.paths };
+
     ghost faults_of = { λ s. s.faults };
 
     fn open(&mut self, alloc: Global, serial: Serial, file: &str) -> Result<DiskNo, ShelfFault>
@@ -146,19 +164,26 @@ impl Shelf for MemShelf {
         requires new { IfSome self.old.bank (λ b. IsNew serial b.serials) }
         ensures number { IfOk result (λ d. IfSome self.old.bank (λ b. d.0 ≡ length b.serials)) }
         ensures opened { OnOk result (IsSomeAnd self.old.bank (λ old. IsSomeAnd self.new.bank
-            (HasOneMore (λ (b : MemState). b.serials) (λ b. Some b.opening) (λ b. b.log) serial old))) }
+            (λ new. HasOneMore serial (mem_told old) (mem_told new)))) }
+        ensures path { OnOk result (self.new.paths ≡ self.old.paths ++ file.now ∷ []) }
         ensures refused { OnErr result (self.new.bank ≡ self.old.bank) }
+        ensures unlisted { OnErr result (self.new.paths ≡ self.old.paths) }
         ensures later { self.old.faults ≤ self.new.faults }
         ensures failed { result ≡ Err ShelfFault.Failed → Rose self.old.faults self.new.faults }
 
         ensures unopened { IsNone (found_by self.old file.now) ↔ (result ≡ Err ShelfFault.Failed) }
-        ensures ok { OnOk result (option_map (with_file self.old serial) (found_by self.old file.now) ≡ Some self.new) }
+        ensures ok { OnOk result (option_map (with_file self.old serial file.now) (found_by self.old file.now) ≡ Some self.new) }
         ensures err { result ≡ Err ShelfFault.Failed → self.new ≡ unopened self.old }
         ensures memory { result ≡ Err ShelfFault.Memory → self.new ≡ unfed self.old }
     {
         self.opens = self.opens.saturating_add(1);
         match find_at(&self.files, file, &self.fails, self.opens) {
-            Some(sectors) => add_to(alloc, &mut self.bank, serial, sectors),
+            Some(sectors) => {
+                let path = new_path(alloc, &mut self.paths, file)?;
+                let d = add_to(alloc, &mut self.bank, serial, sectors)?;
+                self.paths.push_reserved(path);
+                Ok(d)
+            }
             None => {
                 self.faults = self.faults.saturating_add(1);
                 Err(ShelfFault::Failed)

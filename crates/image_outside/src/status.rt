@@ -1,6 +1,7 @@
 //! The status of a command, and how it ends.
 ghost use Rattle.std.specs.Prelude.{◌≡◌, OnOk, OnErr};
 ghost use Rattle.image_outside.specs.Endings.{Ends, EndsWithoutMemory, Prints};
+ghost use Rattle.image_outside.specs.Views.{sink_told};
 
 use crate::outside::{Sink, write_all};
 use member_bank::Failed;
@@ -52,7 +53,7 @@ pub fn status_after(written: Result<(), Failed>, status: Status) -> Status
 
 /// Ends with a status and its lines, or with a write fault where they can't be written.
 pub fn end<K: Sink>(sink: &mut K, lines: &[u8], status: Status) -> Status
-    ensures { Ends (K.written sink.old) (K.written sink.new) (K.faults_of sink.old) (K.faults_of sink.new) (Prints lines.now status.0 (K.written sink.old)) result.0 }
+    ensures { Ends (sink_told K.Sink sink.old) (sink_told K.Sink sink.new) (Prints lines.now status.0) result.0 }
 {
     status_after(write_all(sink, lines), status)
 }
@@ -60,7 +61,7 @@ pub fn end<K: Sink>(sink: &mut K, lines: &[u8], status: Status) -> Status
 /// Ends without memory, also where that can't be written.
 pub fn end_without_memory<K: Sink>(sink: &mut K) -> Status
     ensures status { result.0 ≡ 9 }
-    ensures line { EndsWithoutMemory (K.written sink.old) (K.written sink.new) (K.faults_of sink.old) (K.faults_of sink.new) }
+    ensures line { EndsWithoutMemory (sink_told K.Sink sink.old) (sink_told K.Sink sink.new) }
 {
     let _ = write_all(sink, b"memory\n");
     Status::MEMORY

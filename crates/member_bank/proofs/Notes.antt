@@ -64,7 +64,3 @@ pub not_noted : (told fits : Bool) (room : LogRoom) (ns : List Note) (n : Note) 
 not_noted told fits room ns n ss more old log calls written is_told was test failed many long all one =
     let room_is : has_room room (log_of ns ss) (call_of n more) ≡ false = has_room-log_of room ns n ss more all one ∙ (rw (← many, ← long) (sym test) ∙ failed) in
     rw (← was, is_told, room_is, failed) refl
-
-pub long_ended : (told : Bool) (room : LogRoom) (log : Option (List Call)) (call : Call) (old : LogState) → told ≡ false
-    → ◌≡◌ {A = LogState} (record { log = cond told log None; room = room }) old → ◌≡◌ {A = LogState} old (record { log = log_with old.room old.log call; room = old.room })
-long_ended told room log call old ended was = rw (← was, ended) refl

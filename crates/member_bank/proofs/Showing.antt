@@ -20,7 +20,7 @@ use Rattle.device_log.specs.Cells.{Cell, Stands, cell_at, cell_called, cell_afte
 use Rattle.member_bank.specs.declared.history.LogRoom.{LogRoom}
 use Rattle.member_bank.specs.declared.history.Asked.{Asked}
 use Rattle.member_bank.specs.declared.history.Asked.TheVariants as asked
-use Rattle.member_bank.specs.Told.{Gives, Logs, LogsWrite}
+use Rattle.member_bank.specs.Told.{Logs, LogsWrite}
 use Rattle.member_bank.specs.Contents.{Shows, laid, laid_on, sectors_of, sizes_of}
 use Rattle.member_bank.specs.History.{LogState, has_room, log_with, what_of}
 use Rattle.member_bank.specs.Memory.{MemState, IsLog, IsMemory, kept_next, stored_of, written}
@@ -166,13 +166,6 @@ added_log opening present new log same was = record {
   shown = λ d p s here. added_at opening present new log d p s same was (cases_lt d (length present)) here;
 }
 
--- a log that begins leaves all as it is
-pub no_log : (opening : List (List Sector)) → IsLog opening opening []
-no_log opening = record {
-  named = tt;
-  shown = λ d p s here. subst (λ (o : Option Sector). IsSomeAnd o (λ first. first ≡ s)) (sym here) refl;
-}
-
 some_log : (P Q : List Call → Type 0) (log : Option (List Call)) → IfSome log P → ((l : List Call) → P l → Q l) → IfSome log Q
 some_log P Q None was goes = tt
 some_log P Q (Some l) was goes = goes l was
@@ -221,12 +214,6 @@ stored_memory serials opening present faults counts log k place new stored went 
       sized = was.sized ∙ sym (sizes_put present k place (take stored new) less);
       distinct = was.distinct;
     }
-
--- what stands now is what the log gives
-pub gives_shown : (opening present : List (List Sector)) (log : Option (List Call)) (d p : ℕ) (s : Sector) → IfSome log (IsLog opening present)
-    → slice_get (get_or present d []) p ≡ Some s → Gives (Some opening) log d p s
-gives_shown opening present None d p s told here = tt
-gives_shown opening present (Some calls) d p s told here = told.shown d p s here
 
 -- a log with one more call is logged
 pub logs_with : (room : LogRoom) (log : Option (List Call)) (call : Call) → Logs log (log_with room log call) call

@@ -88,6 +88,7 @@ impl FileBank {
         requires few { length self.old.serials < MAX_DISKS }
         requires distinct { All (λ s. s ≢ serial) self.old.serials }
         ensures ok { OnOk result ((sectors : ℕ) × (self.new ≡ with_file self.old serial sectors)) }
+        ensures counted { OnOk result (length self.old.faults ≡ length self.old.serials) }
         ensures err { OnErr result (self.new ≡ self.old) }
     {
         let sectors = sectors_of(&file).map_err(FileBankFault::Length)?;

@@ -124,11 +124,12 @@ impl MemBank {
         })
     }
 
-    /// Adds a disk at the end, whatever was logged before. Without memory nothing changes.
+    /// Adds a disk at the end, on which no call has failed, whatever was logged before. Without memory nothing changes.
     pub fn add(&mut self, alloc: Global, disk: MemDisk) -> Result<(), BankFault>
         requires few { length self.old.serials < MAX_DISKS }
         requires distinct { All (λ s. s ≢ disk.serial) self.old.serials }
         ensures ok { OnOk result (self.new ≡ with_disk self.old disk) }
+        ensures counted { OnOk result (length self.old.faults ≡ length self.old.serials) }
         ensures err { OnErr result (self.new ≡ self.old) }
     {
         let sectors = disk.sectors.to_vec(alloc)?;
