@@ -99,11 +99,11 @@ module _ (S : Setting) (volume : IsFirstVolume S) where
 
 -- A SUBMIT OF ANOTHER CLIENT
 
-job_is : (c : Control) (k : ℕ) (left : List ℕ) (job : Job) → Has c k left job → job_of c.clients k ≡ job
+pub job_is : (c : Control) (k : ℕ) (left : List ℕ) (job : Job) → Has c k left job → job_of c.clients k ≡ job
 job_is c k left job has = ap (λ (x : Client). x.job) has
 
 -- no other client's job is of an operation that client k submits
-not_submitted : (S : Setting) (c : Control) (k i : ℕ) (rest : List ℕ) → Mine S c → Has c k (i ∷ rest) NoJob → (j : ℕ) → j ≢ k → (m : ℕ) (step : JobStep) → job_of c.clients j ≡ Busy m step → (i == m) ≡ false
+pub not_submitted : (S : Setting) (c : Control) (k i : ℕ) (rest : List ℕ) → Mine S c → Has c k (i ∷ rest) NoJob → (j : ℕ) → j ≢ k → (m : ℕ) (step : JobStep) → job_of c.clients j ≡ Busy m step → (i == m) ≡ false
 not_submitted S c k i rest mine here j apart m step is = at (i == m) refl
   where
     job : IsJob S j m step

@@ -14,6 +14,7 @@ use Rattle.array_model.specs.declared.journal.Answer.{Answer}
 use Rattle.array_model.specs.declared.journal.Answer.TheVariants.{Past}
 use Rattle.array_model.specs.Script.{is_of_client, is_of_client_in}
 use Rattle.array_model.specs.AnswerLaw.{Step, step_of, steps_of, steps_due, IsInOrder}
+use Rattle.array_model.proofs.Steps.{pair}
 use Rattle.stage_machine.specs.Setting.{Setting}
 use Rattle.stage_machine.specs.Opens.{AsksFirst}
 use Rattle.stage_machine.specs.States.{State, IsReadonly, IsReadAuto, IsClean, IsPending, IsActive, IsIdle, asked_events}
@@ -27,9 +28,6 @@ ask i = record { is_ack = false; op = i }
 
 abbrev answer_step : ℕ → Step
 answer_step i = record { is_ack = true; op = i }
-
-abbrev pair : ℕ → List Step
-pair i = ask i ∷ answer_step i ∷ []
 
 -- what a client still has to do
 abbrev job_todo : Job → List Step

@@ -158,7 +158,7 @@ module _ (S : Setting) (asks : AsksFirst S) (volume : IsFirstVolume S) (i : ℕ)
 
 -- WHAT A READ GAVE
 
-slice_get-append : (log more : List Call) (k : ℕ) → k < length log → slice_get (log ++ more) k ≡ slice_get log k
+pub slice_get-append : (log more : List Call) (k : ℕ) → k < length log → slice_get (log ++ more) k ≡ slice_get log k
 slice_get-append [] more k lt = absurd (omega arith)
 slice_get-append (x ∷ xs) more zero lt = refl
 slice_get-append (x ∷ xs) more (suc k) lt = slice_get-append xs more k (omega arith)
@@ -177,7 +177,7 @@ given_more S log x v row since stamp later y short le given =
       gives = given.gives ∙ ap (λ calls. ((disk S calls given.disk).cells given.place).stood) (sym (take-append-le given.before log (x ∷ []) (omega (arith, before))));
     }
 
-last_call : (log : List Call) (x : Call) → slice_get (log ++ x ∷ []) (length log) ≡ Some x
+pub last_call : (log : List Call) (x : Call) → slice_get (log ++ x ∷ []) (length log) ≡ Some x
 last_call [] x = refl
 last_call (y ∷ log) x = last_call log x
 

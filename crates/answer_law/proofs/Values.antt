@@ -80,19 +80,24 @@ module _ (S : Setting) (c : Control) (k i : ℕ) where
       at (x ∷ xs) h = absurd cc
   first_write (Some (OpWhole v)) d ds h = absurd cc
 
-  -- all but these were written
-  pub written_but : (log : List Call) (journal : List Entry) (step : JobStep) (d : ℕ) (ds : List ℕ) → need_of S i step ≡ Writes d ds → StepVals S log journal i step → WrittenBut S log i (d ∷ ds)
-  written_but log journal Waiting d ds h vals = λ x member out.
-      let all = first_write _ d ds h in
-      absurd (let inside : has x (d ∷ ds) ≡ true = subst (λ ms. has x ms ≡ true) all member in cc (inside, out))
-  written_but log journal (Writing left) d ds h vals = subst (WrittenBut S log i) (write_need_is left d ds h) vals
-  written_but log journal (Syncing left) d ds h vals = absurd (at left h)
+  -- a job that writes begins with the members, or has these left
+  pub writes_from : (step : JobStep) (d : ℕ) (ds : List ℕ) → need_of S i step ≡ Writes d ds → ((step ≡ Waiting) × (S.members ≡ d ∷ ds)) ⊎ (step ≡ Writing (d ∷ ds))
+  writes_from Waiting d ds h = inl (refl, first_write _ d ds h)
+  writes_from (Writing left) d ds h = inr (ap Writing (write_need_is left d ds h))
+  writes_from (Syncing left) d ds h = absurd (at left h)
     where
       at : (left : List ℕ) → sync_need left ≡ Writes d ds → ⊥
       at [] h = absurd cc
       at (x ∷ xs) h = absurd cc
-  written_but log journal Written d ds h vals = absurd cc
-  written_but log journal (Got v) d ds h vals = absurd cc
+  writes_from Written d ds h = absurd cc
+  writes_from (Got v) d ds h = absurd cc
+
+  -- all but these were written
+  pub written_but : (log : List Call) (journal : List Entry) (step : JobStep) (d : ℕ) (ds : List ℕ) → need_of S i step ≡ Writes d ds → StepVals S log journal i step → WrittenBut S log i (d ∷ ds)
+  written_but log journal step d ds h vals = elim (writes_from step d ds h) [
+    | inl waits ↦ λ x member out. absurd (let inside : has x (d ∷ ds) ≡ true = subst (λ ms. has x ms ≡ true) waits.1 member in cc (inside, out))
+    | inr writes ↦ subst (StepVals S log journal i) writes vals
+  ]
 
   first_no_sync : (kind : Option OpKind) (d : ℕ) (ds : List ℕ) → first_need S kind ≡ Syncs d ds → ⊥
   first_no_sync None d ds h = absurd cc
@@ -108,16 +113,24 @@ module _ (S : Setting) (c : Control) (k i : ℕ) where
       at (x ∷ xs) h = absurd cc
   first_no_sync (Some (OpWhole v)) d ds h = absurd cc
 
-  pub written_all : (log : List Call) (journal : List Entry) (step : JobStep) (d : ℕ) (ds : List ℕ) → need_of S i step ≡ Syncs d ds → StepVals S log journal i step → WrittenBut S log i []
-  written_all log journal Waiting d ds h vals = absurd (first_no_sync _ d ds h)
-  written_all log journal (Writing left) d ds h vals = absurd (at left h)
+  -- a job that syncs has these left
+  pub syncs_from : (step : JobStep) (d : ℕ) (ds : List ℕ) → need_of S i step ≡ Syncs d ds → step ≡ Syncing (d ∷ ds)
+  syncs_from Waiting d ds h = absurd (first_no_sync _ d ds h)
+  syncs_from (Writing left) d ds h = absurd (at left h)
     where
       at : (left : List ℕ) → write_need left ≡ Syncs d ds → ⊥
       at [] h = absurd cc
       at (x ∷ xs) h = absurd cc
-  written_all log journal (Syncing left) d ds h vals = vals
-  written_all log journal Written d ds h vals = absurd cc
-  written_all log journal (Got v) d ds h vals = absurd cc
+  syncs_from (Syncing left) d ds h = ap Syncing (at left h)
+    where
+      at : (left : List ℕ) → sync_need left ≡ Syncs d ds → left ≡ d ∷ ds
+      at [] h = absurd cc
+      at (x ∷ xs) h = cc h
+  syncs_from Written d ds h = absurd cc
+  syncs_from (Got v) d ds h = absurd cc
+
+  pub written_all : (log : List Call) (journal : List Entry) (step : JobStep) (d : ℕ) (ds : List ℕ) → need_of S i step ≡ Syncs d ds → StepVals S log journal i step → WrittenBut S log i []
+  written_all log journal step d ds h vals = subst (StepVals S log journal i) (syncs_from step d ds h) vals
 
   first_no_answer : (kind : Option OpKind) (answer : Answer) → first_need S kind ≡ Answers answer → ⊥
   first_no_answer None answer h = absurd cc

@@ -2,4 +2,6 @@ pub mod Splits
 pub mod SmallFacts
 pub mod Written
 pub mod SmallKeeps
+pub mod SmallVolumes
 pub mod Journals
+pub mod Steps

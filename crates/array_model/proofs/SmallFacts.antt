@@ -1,16 +1,17 @@
 -- Facts on the small traces.
-use Rattle.std.proofs.Common.{◌≡◌, ℕ, zero, suc, ◌+◌, ◌<◌, ◌≤◌, ◌==◌, ◌||◌, ◌&&◌, Bool, true, false, if◌then◌else◌, nat_le, List, [], ◌∷◌, length, take, refl, subst, arith, ◌⊎◌, inl, inr}
+use Rattle.std.proofs.Common.{◌≡◌, ℕ, zero, suc, ◌+◌, ◌<◌, ◌≤◌, ◌==◌, ◌||◌, ◌&&◌, Bool, true, false, if◌then◌else◌, nat_le, List, [], ◌∷◌, length, take, Some, None, refl, ap, ◌∙◌, subst, arith, ◌⊎◌, inl, inr}
 use Rattle.std.specs.List.{AllByRecursion, list_all, range_with_len}
 use Rattle.std.proofs.lemmas.Bool.Decides.{nat_tests}
 use Rattle.device_log.specs.Log.{Call}
 use Rattle.array_model.specs.declared.journal.Entry.{Entry}
-use Rattle.array_model.specs.Blocks.{Laid}
+use Rattle.array_model.specs.Blocks.{Laid, SlotWords}
+use Rattle.array_model.specs.FailureLaw.{HasInSlot}
 use Rattle.array_model.specs.Candidates.{Disk, Durable, disk_after}
 use Rattle.array_model.specs.declared.journal.Event.{Event}
 use Rattle.array_model.specs.declared.journal.Event.TheVariants.{Ready, Pending, Active, Clean}
 use Rattle.array_model.specs.Events.{has, is_active, is_live, live_at}
 use Rattle.array_model.specs.WriteGate.{IsDirty, DirtyWhileLive}
-use Rattle.array_model.specs.Small.{small_start, small_words, small_disks, worked_log}
+use Rattle.array_model.specs.Small.{small_start, small_slot, small_words, small_disks, worked_log}
 
 each_of : (P : Laid → Bool) (ms : List Laid) → list_all P ms ≡ true → AllByRecursion (λ m. P m ≡ true) ms
 each_of P [] h = tt
@@ -32,6 +33,14 @@ durable_of P k h = at (nat_le 1 (length k.candidates)) refl (list_all P k.candid
     at true is true more h = record { some = grind (arith, nat_tests, is); each = each_of P k.candidates more }
     at true is false more h = absurd cc
     at false is t more h = absurd cc
+
+-- the disks in the slots of the volume
+pub slot_disk : (slot d : ℕ) → HasInSlot small_start small_start.newest 0 slot d → (d ≡ 0) ⊎ (d ≡ 1)
+slot_disk slot zero h = inl refl
+slot_disk slot (suc zero) h = inr refl
+slot_disk zero (suc (suc d)) h = absurd (let first : small_slot small_start.newest 0 (65 ∷ []) ≡ h.words = cc h.there in let none : 65 ∷ [] ≡ [] = ap (λ (w : SlotWords). w.serial) first ∙ h.same in cc none)
+slot_disk (suc zero) (suc (suc d)) h = absurd (let second : small_slot small_start.newest 1 (66 ∷ []) ≡ h.words = cc h.there in let none : 66 ∷ [] ≡ [] = ap (λ (w : SlotWords). w.serial) second ∙ h.same in cc none)
+slot_disk (suc (suc slot)) (suc (suc d)) h = absurd (let none : None ≡ Some h.words = h.there in cc none)
 
 first : (a c : ℕ) → a ≤ c → (a ≡ c) ⊎ (a + 1 ≤ c)
 first a c le = grind arith

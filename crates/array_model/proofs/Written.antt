@@ -5,9 +5,9 @@ use Rattle.imsm_base.specs.declared.units.Sector.{Sector}
 use Rattle.imsm_base.specs.Whole.{anchor_place}
 use Rattle.imsm_base.specs.declared.bounds.TheConstants.{METADATA_SECTORS}
 use Rattle.device_log.specs.Log.{Call, What, Read, Write, Sync}
-use Rattle.array_model.specs.Blocks.{Laid}
+use Rattle.array_model.specs.Blocks.{Laid, Words}
+use Rattle.array_model.specs.Start.{Disks}
 use Rattle.array_model.specs.Candidates.{Disk, In, Part, NoPart, ExtendedPart, AnchorPart, OtherPart, part_of, part_at_end, written, standing, counted, noted, disk_at, disk_called, disk_from, writes, is_among}
-use Rattle.array_model.specs.Small.{small_words, small_disks}
 
 pub split_and : (a b : Bool) → (a && b) ≡ true → (a ≡ true) × (b ≡ true)
 split_and true true h = (refl, refl)
@@ -48,38 +48,40 @@ end_passes P n place (s ∷ t ∷ more) h = choose P (place + length (s ∷ t �
 part_passes : (P : Laid → Bool) (n place : ℕ) (sectors : List Sector) → list_all (λ s. P (alone s)) sectors ≡ true → PartPasses P (part_of n place sectors)
 part_passes P n place sectors h = choose P (nat_le (place + length sectors) (n - METADATA_SECTORS)) NoPart _ tt (end_passes P n place sectors h)
 
-counted-known : (k : Disk) (m : Laid) (b : Bool) → (counted small_words k m b).known ≡ k.known
-counted-known k m true = refl
-counted-known k m false = refl
+counted-known : (W : Words) (k : Disk) (m : Laid) (b : Bool) → (counted W k m b).known ≡ k.known
+counted-known W k m true = refl
+counted-known W k m false = refl
 
-written_all : (P : Laid → Bool) (k : Disk) (p : Part) → PartPasses P p → list_all P k.known ≡ true → list_all P (written small_words k p).known ≡ true
-written_all P k NoPart passes h = h
-written_all P k (ExtendedPart sectors) passes h = h
-written_all P k (AnchorPart s) passes h = rw passes h
-written_all P k OtherPart passes h = h
+-- the words W of blocks of one sector, on any disks
+module _ (W : Words) (disks : Disks) (short : (s : Sector) → W.extra s ≡ 0) where
+  written_all : (P : Laid → Bool) (k : Disk) (p : Part) → PartPasses P p → list_all P k.known ≡ true → list_all P (written W k p).known ≡ true
+  written_all P k NoPart passes h = h
+  written_all P k (ExtendedPart sectors) passes h = h
+  written_all P k (AnchorPart s) passes h = rw (short s, passes) h
+  written_all P k OtherPart passes h = h
 
-noted_all : (P : Laid → Bool) (serial : List ℕ) (n : ℕ) (k : Disk) (what : What) (went : Bool) → call_passes P what ≡ true → list_all P k.known ≡ true
-    → list_all P (noted small_words serial n k what went).known ≡ true
-noted_all P serial n k (Read place) went passes h = h
-noted_all P serial n k (Write place sectors stored) went passes h = written_all P k (part_of n place sectors) (part_passes P n place sectors passes) h
-noted_all P serial n k Sync false passes h = h
-noted_all P serial n k Sync true passes h =
-    let m = standing small_words n k.cells in
-    rw (counted-known k m (small_words.is_whole serial n m && is_among m k.known)) h
+  noted_all : (P : Laid → Bool) (serial : List ℕ) (n : ℕ) (k : Disk) (what : What) (went : Bool) → call_passes P what ≡ true → list_all P k.known ≡ true
+      → list_all P (noted W serial n k what went).known ≡ true
+  noted_all P serial n k (Read place) went passes h = h
+  noted_all P serial n k (Write place sectors stored) went passes h = written_all P k (part_of n place sectors) (part_passes P n place sectors passes) h
+  noted_all P serial n k Sync false passes h = h
+  noted_all P serial n k Sync true passes h =
+      let m = standing W n k.cells in
+      rw (counted-known W k m (W.is_whole serial n m && is_among m k.known)) h
 
-disk_all : (P : Laid → Bool) (d : ℕ) (k : Disk) (log : List Call) → list_all (λ call. call_passes P call.what) log ≡ true → list_all P k.known ≡ true
-    → list_all P (disk_from small_words small_disks d k log).known ≡ true
-disk_all P d k [] passes h = h
-disk_all P d k (call ∷ log) passes h =
-    let both = split_and (call_passes P call.what) (list_all (λ call. call_passes P call.what) log) passes in
-    disk_all P d (disk_called small_words small_disks d k call) log both.1 (at (call.disk == d) both.0)
-  where
-    at : (b : Bool) → call_passes P call.what ≡ true
-        → list_all P (if b then disk_at small_words (small_disks.serial d) (small_disks.sectors d) k call.what call.went else k).known ≡ true
-    at true passes = noted_all P (small_disks.serial d) (small_disks.sectors d) k call.what call.went passes h
-    at false passes = h
+  disk_all : (P : Laid → Bool) (d : ℕ) (k : Disk) (log : List Call) → list_all (λ call. call_passes P call.what) log ≡ true → list_all P k.known ≡ true
+      → list_all P (disk_from W disks d k log).known ≡ true
+  disk_all P d k [] passes h = h
+  disk_all P d k (call ∷ log) passes h =
+      let both = split_and (call_passes P call.what) (list_all (λ call. call_passes P call.what) log) passes in
+      disk_all P d (disk_called W disks d k call) log both.1 (at (call.disk == d) both.0)
+    where
+      at : (b : Bool) → call_passes P call.what ≡ true
+          → list_all P (if b then disk_at W (disks.serial d) (disks.sectors d) k call.what call.went else k).known ≡ true
+      at true passes = noted_all P (disks.serial d) (disks.sectors d) k call.what call.went passes h
+      at false passes = h
 
--- a block that the log writes to some disk passes, where each sector of each write does
-pub written_passes : (P : Laid → Bool) (d : ℕ) (log : List Call) (m : Laid) → list_all (λ call. call_passes P call.what) log ≡ true
-    → In m (writes small_words small_disks d log) → P m ≡ true
-written_passes P d log m passes i = in_all P m (writes small_words small_disks d log) i (disk_all P d _ log passes refl)
+  -- a block that the log writes to some disk passes, where each sector of each write does
+  pub written_passes : (P : Laid → Bool) (d : ℕ) (log : List Call) (m : Laid) → list_all (λ call. call_passes P call.what) log ≡ true
+      → In m (writes W disks d log) → P m ≡ true
+  written_passes P d log m passes i = in_all P m (writes W disks d log) i (disk_all P d _ log passes refl)

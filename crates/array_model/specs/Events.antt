@@ -129,6 +129,11 @@ abbrev pub is_submit_in : List Op → ℕ → Event → Bool
 is_submit_in ops v (Submit i) = is_write_in ops v i
 is_submit_in ops v _ = false
 
+-- op i was answered
+abbrev pub is_ack_of : ℕ → Event → Bool
+is_ack_of i (Ack j answer) = j == i
+is_ack_of i _ = false
+
 abbrev pub is_done : Answer → Bool
 is_done Done = true
 is_done _ = false

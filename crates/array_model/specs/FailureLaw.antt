@@ -1,8 +1,8 @@
 -- Failures: no write is acknowledged past a failure that isn't recorded, no failed call is hidden, a round forgets no
--- healthy member, and a checkpoint counts no row that isn't done. Source: mdmon-design.txt (a write to a failed member
+-- healthy member, and a checkpoint doesn't stay behind its pass. Source: mdmon-design.txt (a write to a failed member
 -- waits until the metadata records the failure and "-blocked" is written); the rest is this project's own.
-use Rattle.std.specs.Prelude.{◌≡◌, ℕ, ◌+◌, ◌*◌, ◌/◌, ◌<◌, ◌≤◌, ◌==◌, ◌&&◌, nat_le, Bool, true, false, List, [], ◌∷◌, take, slice_get, Option, Some, None, IsSome, if◌then◌else◌, ⊤, ◌⊎◌}
-use Rattle.std.specs.List.{list_any}
+use Rattle.std.specs.Prelude.{◌≡◌, ℕ, ◌+◌, ◌*◌, ◌/◌, ◌<◌, ◌≤◌, ◌==◌, ◌&&◌, nat_le, Bool, true, false, List, [], ◌∷◌, ◌++◌, take, slice_get, Option, Some, None, IsSome, if◌then◌else◌, ⊤, ◌⊎◌}
+use Rattle.std.specs.List.{AllByRecursion, list_any}
 use Rattle.device_log.specs.Log.{Call, Read}
 use Rattle.array_model.specs.declared.script.Op.{Op}
 use Rattle.array_model.specs.declared.journal.Entry.{Entry}
@@ -67,6 +67,26 @@ abbrev pub IsTold : List Entry → ℕ → Call → Type 0
 IsTold journal before call =
     call.went ≡ false → before + 1 < last_stamp journal → has_fault_by call.disk (before + 1) journal ≡ true
 
+-- THE END OF A RUN
+
+abbrev pub AllWent : List Call → Type 0
+AllWent log = AllByRecursion (λ call. call.went ≡ true) log
+
+-- the last call is on disk d and failed, and each call before it went through
+pub record FailsLast (d : ℕ) (log : List Call) : Type 0 where
+  pub before : List Call
+  pub last : Call
+  pub parts : log ≡ before ++ last ∷ []
+  pub went : AllWent before
+  pub on_disk : last.disk ≡ d
+  pub fails : last.went ≡ false
+
+-- A call that fails ends the run. Where no disk failed, each call of the run went through; where one did, the last call
+-- is the one that failed on it.
+abbrev pub EndsAtFailure : List Call → (failed : Option ℕ) → Type 0
+EndsAtFailure log None = AllWent log
+EndsAtFailure log (Some d) = FailsLast d log
+
 -- WHAT A ROUND KEEPS
 
 -- what the last finished round's block (before the first, the newest at opening) says of a disk, the round's says too,
@@ -116,6 +136,8 @@ pub record ReadsRow (start : Start) (m : Laid) (v row : ℕ) (call : Call) : Typ
   pub slot : ℕ
   pub member : HasInSlot start m v slot call.disk
 
+-- a round's unit has come to the last multiple of 1,024 rows up to each row that the pass has read, but for rows that
+-- operations name
 abbrev pub BeginCounts : Start → List Op → List Call → List Entry → ℕ → Event → Type 0
 BeginCounts start ops log front stamp (Begin g) =
     (v since : ℕ) (m : Laid) → pass_from v None front ≡ Some since → IsRound start log stamp g m

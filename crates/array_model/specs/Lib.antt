@@ -1,4 +1,5 @@
 pub mod Script
+pub mod Fits
 pub mod Kept
 pub mod Events
 pub mod Moments
@@ -15,5 +16,9 @@ pub mod WriteGate
 pub mod FailureLaw
 pub mod Broken
 pub mod AnswerLaw
+pub mod RowCalls
+pub mod Causes
+pub mod Rests
 pub mod Meaning
 pub mod Small
+pub mod SmallFailures

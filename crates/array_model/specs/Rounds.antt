@@ -1,11 +1,11 @@
 -- Rounds of metadata writes, which the journal begins and ends, and the members that work. Source: this project's own.
-use Rattle.std.specs.Prelude.{◌≡◌, ℕ, ◌==◌, Bool, true, false, List, [], ◌∷◌, drop, Option, Some, None, if◌then◌else◌}
+use Rattle.std.specs.Prelude.{◌≡◌, ℕ, ◌==◌, Bool, true, false, List, [], ◌∷◌, drop, Option, Some, None, if◌then◌else◌, ⊤}
 use Rattle.std.specs.Str.{bytes_eq}
 use Rattle.device_log.specs.Log.{Call}
 use Rattle.array_model.specs.declared.journal.Entry.{Entry}
 use Rattle.array_model.specs.declared.journal.Event.{Event}
 use Rattle.array_model.specs.declared.journal.Event.TheVariants.{Begin, End, Fault}
-use Rattle.array_model.specs.Blocks.{Laid}
+use Rattle.array_model.specs.Blocks.{Laid, is_container}
 use Rattle.array_model.specs.Start.{Start, Disks}
 use Rattle.array_model.specs.Events.{has, is_faulty}
 use Rattle.array_model.specs.Candidates.{In, writes, Durable, disk_after}
@@ -53,6 +53,11 @@ pub record HasFinished (start : Start) (log : List Call) (journal : List Entry) 
   pub block : Laid
   pub is : IsFinished start log journal block
   pub one : (m : Laid) → IsFinished start log journal m → m ≡ block
+
+-- the block of a round that begins is a container's
+abbrev pub BeginsContainer : Start → List Call → ℕ → Event → Type 0
+BeginsContainer start log stamp (Begin g) = (m : Laid) → IsRound start log stamp g m → is_container start.words m ≡ true
+BeginsContainer start log stamp _ = ⊤
 
 -- a member works where the block of the last finished round expects it and it has no fault
 pub record IsWorking (start : Start) (journal : List Entry) (m : Laid) (d : ℕ) : Type 0 where

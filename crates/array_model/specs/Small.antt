@@ -1,6 +1,6 @@
 -- Small traces for the examples of the laws: two disks, one volume of two copies, blocks of three bytes. Source: this
 -- project's own.
-use Rattle.std.specs.Prelude.{ℕ, zero, suc, ◌==◌, ◌&&◌, ◌||◌, not, Bool, true, false, List, [], ◌∷◌, length, slice_index, Some, None, if◌then◌else◌}
+use Rattle.std.specs.Prelude.{ℕ, zero, suc, ◌==◌, ◌&&◌, ◌||◌, not, Bool, true, false, List, [], ◌∷◌, ◌++◌, length, take, slice_index, slice_set, Some, None, if◌then◌else◌}
 use Rattle.std.specs.Str.{bytes_eq}
 use Rattle.imsm_base.specs.declared.units.Sector.{Sector}
 use Rattle.imsm_base.specs.declared.units.VolNo.{VolNo}
@@ -11,7 +11,7 @@ use Rattle.array_model.specs.declared.script.OpKind.TheVariants.{Write as OpWrit
 use Rattle.array_model.specs.declared.journal.Entry.{Entry}
 use Rattle.array_model.specs.declared.journal.Event.{Event}
 use Rattle.array_model.specs.declared.journal.Event.TheVariants.{Begin, End, Ready, Submit, Pending, Active, Ack, Idle, Clean, Fault, Unblock}
-use Rattle.array_model.specs.declared.journal.Answer.TheVariants.{Done, Value}
+use Rattle.array_model.specs.declared.journal.Answer.TheVariants.{Done, Value, Past}
 use Rattle.array_model.specs.Script.{Asked, sector_of}
 use Rattle.array_model.specs.Blocks.{Words, Laid, SlotWords}
 use Rattle.array_model.specs.Start.{Start, Disks}
@@ -181,3 +181,47 @@ hasty_journal =
     at 0 (Begin 2) ∷ at 4 (End 2) ∷ at 4 (Ready the_volume) ∷ at 4 (Submit 0) ∷ at 4 (Pending the_volume)
     ∷ at 4 (Begin 3) ∷ at 8 (End 3) ∷ at 8 (Active the_volume) ∷ at 10 (Fault (record { 0 = 1 }))
     ∷ at 11 (Begin 4) ∷ at 11 (Ack 0 Done) ∷ at 13 (End 4) ∷ []
+
+-- ROWS: the worked log with a call that is another, and with one more
+
+-- the second member isn't written: the first is, twice
+abbrev pub lone_log : List Call
+lone_log = slice_set worked_log 9 (puts 0 5 (sector_of the_value))
+
+-- its last sync fails
+abbrev pub unsynced_log : List Call
+unsynced_log = slice_set worked_log 11 (fails (syncs 1))
+
+-- no row is read
+abbrev pub unread_log : List Call
+unread_log = slice_set worked_log 12 (syncs 0)
+
+-- behind the last entry the row is written over
+abbrev pub scribbled_log : List Call
+scribbled_log = worked_log ++ puts 0 5 zeros ∷ []
+
+-- the volume is made clean, and no round has recorded it
+abbrev pub unrecorded_journal : List Entry
+unrecorded_journal = take 13 worked_journal
+
+-- ENTRIES WITHOUT A CAUSE
+
+-- the first round has another generation than the next one
+abbrev pub skipping_journal : List Entry
+skipping_journal = at 0 (Begin 99) ∷ at 4 (End 99) ∷ []
+
+-- a disk has a fault, where no run outlives one
+abbrev pub faulty_journal : List Entry
+faulty_journal = at 0 (Fault (record { 0 = 0 })) ∷ []
+
+-- a write to a sector of the volume is answered as one past its end
+abbrev pub refused_journal : List Entry
+refused_journal = at 0 (Begin 2) ∷ at 4 (End 2) ∷ at 4 (Ready the_volume) ∷ at 4 (Submit 0) ∷ at 4 (Ack 0 Past) ∷ []
+
+-- a read is answered as a write is
+abbrev pub valueless_journal : List Entry
+valueless_journal = at 0 (Begin 2) ∷ at 4 (End 2) ∷ at 4 (Ready the_volume) ∷ at 4 (Submit 1) ∷ at 5 (Ack 1 Done) ∷ []
+
+-- a write is submitted before the volume is ready
+abbrev pub eager_journal : List Entry
+eager_journal = at 0 (Submit 0) ∷ []

@@ -3,7 +3,10 @@ ghost use Rattle.array_model.specs.Form.{IsJournal};
 ghost use Rattle.array_model.specs.WriteGate.{WriteGate};
 ghost use Rattle.array_model.specs.FailureLaw.{FailureLaw};
 ghost use Rattle.array_model.specs.AnswerLaw.{AnswerLaw};
-ghost use Rattle.array_model.specs.Small.{small_start, the_script, write_and_read, worked_log, worked_journal, early_journal, stale_journal, falling_journal, failing_log, failing_journal, hidden_journal, hasty_journal};
+ghost use Rattle.array_model.specs.RowCalls.{AnswersFromRows, CallsHaveCauses};
+ghost use Rattle.array_model.specs.Causes.{AreCaused};
+ghost use Rattle.array_model.specs.Rests.{HasComeToRest};
+ghost use Rattle.array_model.specs.Small.{small_start, the_script, write_and_read, worked_log, worked_journal, early_journal, stale_journal, falling_journal, failing_log, failing_journal, hidden_journal, hasty_journal, lone_log, unsynced_log, unread_log, scribbled_log, skipping_journal, faulty_journal, refused_journal, valueless_journal, eager_journal, unrecorded_journal};
 
 /// The journal of one write and one read has the form of a journal. One whose stamp falls hasn't.
 pub fn example_of_the_journal_form()
@@ -29,4 +32,34 @@ pub fn example_of_the_failure_law()
 pub fn example_of_the_answer_law()
     ensures meets { AnswerLaw small_start the_script worked_log worked_journal }
     ensures stale { AnswerLaw small_start the_script worked_log stale_journal → ⊥ }
+{}
+
+/// The answers of one write and one read come from calls on their row, and each call has its cause. Where the second
+/// member isn't written, or its last sync fails, or no row is read, the answers don't. Where the row is written over
+/// behind the last entry, that call has no cause.
+pub fn example_of_the_row_calls()
+    ensures answers { AnswersFromRows small_start write_and_read worked_log worked_journal }
+    ensures causes { CallsHaveCauses small_start write_and_read worked_log worked_journal }
+    ensures lone { AnswersFromRows small_start write_and_read lone_log worked_journal → ⊥ }
+    ensures unsynced { AnswersFromRows small_start write_and_read unsynced_log worked_journal → ⊥ }
+    ensures unread { AnswersFromRows small_start write_and_read unread_log worked_journal → ⊥ }
+    ensures scribbled { CallsHaveCauses small_start write_and_read scribbled_log worked_journal → ⊥ }
+{}
+
+/// Each entry of one write and one read has its cause. A round that skips generations has none, nor has a fault today, a
+/// sector of the volume that is said to lie past its end, a read that is done without a value, a write before the volume
+/// is ready.
+pub fn example_of_the_causes()
+    ensures meets { AreCaused small_start write_and_read worked_journal }
+    ensures skipping { AreCaused small_start write_and_read skipping_journal → ⊥ }
+    ensures faulty { AreCaused small_start write_and_read faulty_journal → ⊥ }
+    ensures refused { AreCaused small_start write_and_read refused_journal → ⊥ }
+    ensures valueless { AreCaused small_start write_and_read valueless_journal → ⊥ }
+    ensures eager { AreCaused small_start write_and_read eager_journal → ⊥ }
+{}
+
+/// One write and one read come to rest. Before the last round, which records the volume as clean, they haven't.
+pub fn example_of_the_rest()
+    ensures meets { HasComeToRest small_start write_and_read worked_journal }
+    ensures unrecorded { HasComeToRest small_start write_and_read unrecorded_journal → ⊥ }
 {}

@@ -1,5 +1,7 @@
 //! What a run tells: events, stamped by how many device calls were made before them.
 ghost use Rattle.std.specs.Prelude.{◌≡◌, ◌<◌, [], ◌∷◌, ◌++◌, length, IfOk};
+ghost use Rattle.std.specs.List.{AllByRecursion};
+ghost use Rattle.array_model.specs.Fits.{FitsEntry};
 
 use imsm_base::{DiskNo, Sector, VolNo};
 use std::alloc::Global;
@@ -82,13 +84,16 @@ pub struct Journal {
 
 impl Model for Journal {
     ghost use Rattle.std.specs.Prelude.{◌≤◌, vec_capacity, vec_len};
+    ghost use Rattle.std.specs.List.{AllByRecursion};
+    ghost use Rattle.array_model.specs.Fits.{FitsEntry};
     ghost use Rattle.array_model.specs.Kept.{JournalState};
 
     ghost Value = { JournalState };
 
     ghost view = { λ j. record { entries = j.entries.items; room = j.room } };
 
-    ghost invariant = { λ j. (vec_len j.entries ≤ j.room) × (j.room ≤ vec_capacity j.entries) };
+    ghost invariant = { λ j.
+        (vec_len j.entries ≤ j.room) × (j.room ≤ vec_capacity j.entries) × AllByRecursion FitsEntry j.entries.items };
 }
 
 impl Journal {
@@ -103,9 +108,10 @@ impl Journal {
         })
     }
 
-    /// The entries so far.
+    /// The entries so far. Their numbers are of their types, and their sectors are whole.
     pub fn entries(&self) -> &[Entry]
-        ensures { result.now ≡ self.now.entries }
+        ensures all { result.now ≡ self.now.entries }
+        ensures fits { AllByRecursion FitsEntry result.now }
     {
         &self.entries
     }

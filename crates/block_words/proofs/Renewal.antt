@@ -10,7 +10,7 @@ use Rattle.imsm_base.specs.Layout.{Block, Volume, header_lengths, size_of, gener
 use Rattle.imsm_base.specs.Parts.{block_in}
 use Rattle.imsm_base.specs.Whole.{IsWholeBlock, IsWholeDisk, block_sum, extended_count, expected_serials}
 use Rattle.imsm_base.specs.Volumes.{members, is_dirty, volume_fault}
-use Rattle.imsm_base.specs.Edits.{with_generation, with_dirty, sealed, sized, first_sector, block_with_generation, block_with_dirty, block_with_size, block_sealed}
+use Rattle.imsm_base.specs.Edits.{with_generation, with_dirty, sized, first_sector, block_with_generation, block_with_dirty, block_with_size, block_sealed}
 use Rattle.imsm_base.specs.FirstForm.{IsFirstForm}
 use Rattle.imsm_base.proofs.Joined.{block_in-spelled}
 use Rattle.imsm_base.proofs.Spliced.{number_at-take, number_at-front}
@@ -190,14 +190,6 @@ renewal m g y r fits =
       same = says-same m g y k;
       whole = whole-on m g y k;
     }
-
--- the code's edits, one after the other, write that sector
-pub written-anchor : (m : Laid) (g : ℕ) (y : Bool) (bytes : List ℕ) (s : Sector) → bytes ≡ bytes_of_laid m → s.0 ≡ first_sector (sealed (with_dirty (with_generation bytes g) 0 y)) → s ≡ (renewed m g y).anchor
-written-anchor m g y bytes s is at = ap (λ (x : List ℕ). let z : Sector = record { 0 = x } in z) (at ∙ ap (λ (x : List ℕ). first_sector (renewed_bytes x g y)) is)
-
--- and leave the bytes of the block that is renewed
-pub written-bytes : (m : Laid) (g : ℕ) (y : Bool) → IsRenewable block_words m → bytes_of_laid (renewed m g y) ≡ renewed_bytes (bytes_of_laid m) g y
-written-bytes m g y r = (make m g y r).bytes
 
 -- THE FIRST FORM
 

@@ -1,5 +1,5 @@
 -- The failure law over every run.
-use Rattle.std.proofs.Common.{◌≡◌, ℕ, ◌+◌, ◌≤◌, true, List, [], ◌∷◌, ◌++◌, length, slice_get, refl, ap, sym, ◌∙◌, subst, arith, length-append, inl, inr, Option, Some, None}
+use Rattle.std.proofs.Common.{◌≡◌, ℕ, ◌+◌, ◌≤◌, true, List, [], ◌∷◌, ◌++◌, length, slice_get, refl, ap, sym, ◌∙◌, subst, arith, length-append, inl, Option, Some, None}
 use Rattle.std.specs.List.{AllByRecursion}
 use Rattle.device_log.specs.Log.{Call}
 use Rattle.array_model.specs.declared.journal.Entry.{Entry}
@@ -10,7 +10,7 @@ use Rattle.array_model.specs.Blocks.{SlotWords}
 use Rattle.array_model.specs.Renewal.{FitsGeneration}
 use Rattle.array_model.specs.Events.{AtEachFrom, last_stamp, stamp_from}
 use Rattle.array_model.specs.Moments.{AllBelow, EachCall, EachCallFrom}
-use Rattle.array_model.specs.FailureLaw.{FailureLaw, IsRecordedFor, AckOverFaults, IsTold, BeginKeeps, pass_at, pass_from, BeginCounts}
+use Rattle.array_model.specs.FailureLaw.{FailureLaw, AllWent, FailsLast, EndsAtFailure, IsRecordedFor, AckOverFaults, IsTold, BeginKeeps, pass_at, pass_from, BeginCounts}
 use Rattle.array_model.proofs.Journals.{all-append, each_call}
 use Rattle.stage_machine.specs.Setting.{Setting, Renews}
 use Rattle.stage_machine.specs.Opens.{StandsOnAll, IsFirstVolume}
@@ -18,7 +18,7 @@ use Rattle.stage_machine.specs.Machine.{World, Reached}
 use Rattle.stage_machine.proofs.Moments.{counted_reached}
 use Rattle.stage_machine.proofs.Ours.{AreOurs, IsOurs, ours_reached, none_faulty}
 use Rattle.stage_machine.proofs.Finished.{IsFine, fine_reached, all_take, round_good, finished_good}
-use Rattle.stage_machine.proofs.Failed.{AllWent, OnlyLast, calls_reached}
+use Rattle.stage_machine.proofs.Failed.{ends_reached}
 
 -- what holds of each entry behind entries that the machine makes
 each_ours : (P : List Entry → Entry → Type 0) → ((front : List Entry) (e : Entry) → AreOurs front → P front e) → (front journal : List Entry) → AreOurs front → AreOurs journal → AtEachFrom P front journal
@@ -52,10 +52,14 @@ told_last journal k (x ∷ xs) last went le =
 told_went : (journal : List Entry) (log : List Call) → AllWent log → EachCall (λ n call. IsTold journal n call) log
 told_went journal log went = each_call (λ n call. IsTold journal n call) (λ (x : Call). x.went ≡ true) (λ n call through failed early. absurd (cc (through, failed))) 0 log went
 
-told_only : (journal : List Entry) (log : List Call) → last_stamp journal ≤ length log → OnlyLast log → EachCall (λ n call. IsTold journal n call) log
-told_only journal log le only =
-    let size : length log ≡ length only.before + 1 = ap (λ (xs : List Call). length xs) only.parts ∙ length-append only.before (only.last ∷ []) in
-    subst (EachCall (λ n call. IsTold journal n call)) (sym only.parts) (told_last journal 0 only.before only.last only.went (omega (arith, le, size)))
+told_fails : (journal : List Entry) (log : List Call) (d : ℕ) → last_stamp journal ≤ length log → FailsLast d log → EachCall (λ n call. IsTold journal n call) log
+told_fails journal log d le it =
+    let size : length log ≡ length it.before + 1 = ap (λ (xs : List Call). length xs) it.parts ∙ length-append it.before (it.last ∷ []) in
+    subst (EachCall (λ n call. IsTold journal n call)) (sym it.parts) (told_last journal 0 it.before it.last it.went (omega (arith, le, size)))
+
+told_all : (journal : List Entry) (log : List Call) (failed : Option ℕ) → last_stamp journal ≤ length log → EndsAtFailure log failed → EachCall (λ n call. IsTold journal n call) log
+told_all journal log None le all = told_went journal log all
+told_all journal log (Some d) le last = told_fails journal log d le last
 
 -- WHAT A ROUND KEEPS: each block says of members what the newest at opening says
 
@@ -98,10 +102,7 @@ failures_reached S renews on volume w fits r =
     let short : last_stamp w.journal ≤ length w.log = let below = stamp_below 0 w.calls w.journal (omega arith) counted.below in let calls = counted.calls in omega (arith, below, calls) in
     record {
       acks = each_ours _ (λ front e front_ours. acks_over S _ front e.event front_ours) [] w.journal tt ours;
-      calls = elim (calls_reached S w r).most [
-        | inl all ↦ told_went w.journal w.log all
-        | inr only ↦ told_only w.journal w.log short only
-      ];
+      calls = told_all w.journal w.log w.control.failed short (ends_reached S w r);
       keeps = each_ours _ (λ front e front_ours. begin_keeps S on volume w.log fine front e.stamp e.event) [] w.journal tt ours;
       units = each_ours _ (λ front e front_ours. begin_counts S w.log front e.stamp e.event front_ours) [] w.journal tt ours;
     }

@@ -1,5 +1,5 @@
 -- Lists of disk numbers, and what is in them.
-use Rattle.std.proofs.Common.{◌≡◌, ◌≢◌, ℕ, zero, suc, ◌+◌, ◌<◌, ◌≤◌, ◌==◌, ◌&&◌, ◌||◌, Bool, true, false, cond, List, [], ◌∷◌, ◌++◌, filter, flat_map, slice_get, Some, refl, sym, ◌∙◌, ap, arith}
+use Rattle.std.proofs.Common.{◌≡◌, ◌≢◌, ℕ, zero, suc, ◌+◌, ◌<◌, ◌≤◌, ◌==◌, ◌&&◌, ◌||◌, Bool, true, false, cond, List, [], ◌∷◌, ◌++◌, filter, flat_map, slice_get, Some, refl, sym, ◌∙◌, ap, subst, arith}
 use Rattle.std.specs.List.{range_with_len}
 use Rattle.std.proofs.lemmas.Bool.{false≢true, eqb-true, eqb-false, eq-eqb, or_left, or_right}
 use Rattle.std.proofs.Math.Bool.{or_assoc}
@@ -60,3 +60,9 @@ in-one {X} f d (y ∷ ys) e = at (has d (f y)) refl (sym (has-append d (f y) (fl
         (i : ℕ) × (x : X) × (slice_get (y ∷ ys) i ≡ Some x) × (has d (f x) ≡ true)
     at true here e rest = (0, y, refl, here)
     at false other e rest = let r = rest e in (suc r.0, r.1, r.2, r.3)
+
+-- and what is in one of them is in all, end to end
+pub in-flat : {X : Type 0} (f : X → List ℕ) (d : ℕ) (xs : List X) (i : ℕ) (x : X) → slice_get xs i ≡ Some x → has d (f x) ≡ true → has d (flat_map f xs) ≡ true
+in-flat f d [] i x there e = cc
+in-flat f d (y ∷ ys) zero x there e = let same : y ≡ x = cc there in has-append d (f y) (flat_map f ys) ∙ or_left _ _ (subst (λ z. has d (f z) ≡ true) (sym same) e)
+in-flat f d (y ∷ ys) (suc i) x there e = has-append d (f y) (flat_map f ys) ∙ or_right _ _ (in-flat f d ys i x there e)

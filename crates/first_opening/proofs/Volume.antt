@@ -1,29 +1,30 @@
 -- The volume of the newest block: its shape, its slots, and the room that it has on each disk.
-use Rattle.std.proofs.Common.{◌≡◌, ◌≢◌, ℕ, zero, suc, ◌+◌, ◌<◌, ◌≤◌, ◌==◌, ◌&&◌, not, Bool, true, false, List, [], ◌∷◌, length, map, slice_get, slice_index, nat_lt, nat_le, Option, Some, bytes_eq, ◌⊎◌, inl, inr, refl, sym, ◌∙◌, ap, subst, arith}
-use Rattle.std.specs.List.{list_all}
+use Rattle.std.proofs.Common.{◌≡◌, ◌≢◌, ℕ, zero, suc, ◌+◌, ◌<◌, ◌≤◌, ◌==◌, ◌&&◌, not, Bool, true, false, List, [], ◌∷◌, length, map, slice_get, slice_index, get_or, nat_lt, nat_le, Option, Some, None, if◌then◌else◌, bytes_eq, ◌⊎◌, inl, inr, refl, sym, ◌∙◌, ap, subst, arith}
+use Rattle.std.specs.List.{AllByRecursion, list_all}
 use Rattle.std.specs.Option.{option_map_or}
-use Rattle.std.proofs.lemmas.Bool.{false≢true, and_parts, or_parts, and_from, leb-true, ltb-true, eqb-true, eqb-false, not_from_false}
-use Rattle.std.proofs.lemmas.Option.{slice_get_within}
+use Rattle.std.proofs.lemmas.Bool.{false≢true, and_parts, or_parts, and_from, leb-true, ltb-true, ltb-false, eqb-true, eqb-false, not_from_false}
+use Rattle.std.proofs.lemmas.List.{get_or_past}
+use Rattle.std.proofs.lemmas.Option.{slice_get_within, slice_get-get_or}
 use Rattle.std.proofs.lemmas.Slice.Eq.{bytes_eq-Decides}
 use Rattle.imsm_base.specs.declared.bounds.TheConstants.{METADATA_SECTORS}
 use Rattle.imsm_base.specs.declared.units.Level.{Level}
 use Rattle.imsm_base.specs.declared.units.Sector.{Sector}
 use Rattle.imsm_base.specs.Fields.{Part}
-use Rattle.imsm_base.specs.Layout.{Block, Volume, disk_count_of, volume_size_of, strip_of, pba_of, member_count_of, total_blocks_of}
+use Rattle.imsm_base.specs.Layout.{Block, Volume, serial_of, disk_count_of, volume_size_of, strip_of, pba_of, member_count_of, migration_type_of, total_blocks_of}
 use Rattle.imsm_base.specs.Parts.{block_in}
 use Rattle.imsm_base.specs.Volumes.{Member, first_map, member, members, is_in_sync, is_like, has_geometry, has_sectors, volume_rows, rows_of}
 use Rattle.imsm_base.specs.FirstForm.{IsCleanMirror}
 use Rattle.imsm_codec.proofs.Mirror.{AreMirrorTests, tests_from_mirror, members_two, mirror_slots, mirror_out}
 use Rattle.array_model.specs.Blocks.{SlotWords}
-use Rattle.array_model.specs.Meaning.{of_volume, shape_of, no_shape, slot_words}
+use Rattle.array_model.specs.Meaning.{of_volume, pass_of, shape_of, no_shape, slot_words}
 use Rattle.array_model.specs.Placement.{Shape}
 use Rattle.array_model.specs.Script.{Asked}
 use Rattle.block_words.specs.Reading.{block_words}
 use Rattle.stage_machine.specs.Setting.{has}
 use Rattle.stage_machine.specs.Opens.{IsFirstVolume}
 use Rattle.first_opening.specs.Opened.{Opened, IsOpening, serial_at, newest_of, block_of, numbers_of, disks_in_slot, members_of, setting_of}
-use Rattle.first_opening.proofs.Numbers.{has-filter, below-range, in-one}
-use Rattle.first_opening.proofs.Records.{expected-at}
+use Rattle.first_opening.proofs.Numbers.{has-filter, below-range, range-has, in-one, in-flat}
+use Rattle.first_opening.proofs.Records.{expected-at, expected-serial, no-empty-serial}
 use Rattle.first_opening.proofs.Found.{found, own-record, two-records, target-below, is-target}
 
 -- THE VOLUME
@@ -116,6 +117,16 @@ slot-in-sync o is slot words there = at slot (sym (ap (λ (ws : List SlotWords).
     at (suc zero) e = sym (ap (λ (w : Option SlotWords). option_map_or (λ x. x.is_in_sync) w true) e) ∙ (both-in-sync o is).1
     at (suc (suc k)) e = cc
 
+pub slots-in-sync : (o : Opened) → IsOpening o → AllByRecursion (λ w. w.is_in_sync ≡ true) (block_words.slots (newest_of o) 0)
+slots-in-sync o is = subst (AllByRecursion (λ w. w.is_in_sync ≡ true)) (sym (mirror o is).slots) ((both-in-sync o is).0, ((both-in-sync o is).1, tt))
+
+-- no pass is open
+pub no-pass : (o : Opened) → IsOpening o → block_words.pass (newest_of o) 0 ≡ None
+no-pass o is =
+    ap (λ (x : Block). of_volume x 0 pass_of None) (found o is).parts
+    ∙ ap (λ (vs : List Volume). option_map_or pass_of (slice_get vs 0) None) (mirror o is).one
+    ∙ ap (λ b. if b then Some (migration_type_of (the-volume o is)) else None) (mirror o is).clean.idle
+
 -- a disk of the volume: its slot
 pub record IsInVolume (o : Opened) (d : ℕ) : Type 0 where
   pub slot : ℕ
@@ -135,6 +146,44 @@ in-volume o d is =
       same = (bytes_eq-Decides one.1.serial (serial_at o d)).0 both.1;
       below = omega (arith, below-range d 0 (length o.serials) both.0);
     }
+
+-- A SLOT'S DISK
+
+record-speaks : (o : Opened) (is : IsOpening o) (m : Member) → m.index < 2 → (slot_words (block_in (block_of o)) m).serial ≡ [] → ⊥
+record-speaks o is m below none = at (slice_get disks m.index) refl none
+  where
+    disks : List Part
+    disks = (block_in (block_of o)).disks
+
+    at : (found : Option Part) → slice_get disks m.index ≡ found → option_map_or serial_of found [] ≡ [] → ⊥
+    at None there none = absurd (let some : None ≡ Some (get_or disks m.index []) = sym there ∙ slice_get-get_or disks m.index [] (omega (arith, below, two-records o is)) in cc some)
+    at (Some disk) there none =
+        let same : bytes_eq (serial_of disk) [] ≡ true = (bytes_eq-Decides (serial_of disk) []).1 none in
+        false≢true (sym (no-empty-serial disks (found o is).whole.spells.parts.disks) ∙ expected-serial disks m.index disk [] is.first.expected there same)
+
+-- the record of each slot has a serial
+slot-speaks : (o : Opened) (is : IsOpening o) (slot : ℕ) (words : SlotWords) → slice_get (block_words.slots (newest_of o) 0) slot ≡ Some words → words.serial ≡ [] → ⊥
+slot-speaks o is slot words there none = at slot (sym (ap (λ (ws : List SlotWords). slice_get ws slot) (mirror o is).slots) ∙ there)
+  where
+    serial-is : (w : SlotWords) → Some w ≡ Some words → w.serial ≡ []
+    serial-is w e = ap (λ (x : Option SlotWords). option_map_or (λ y. y.serial) x []) e ∙ none
+
+    at : (k : ℕ) → slice_get (slot_words (block_in (block_of o)) (member (the-volume o is) 0) ∷ slot_words (block_in (block_of o)) (member (the-volume o is) 1) ∷ []) k ≡ Some words → ⊥
+    at zero e = record-speaks o is (member (the-volume o is) 0) (pair o is).first (serial-is (slot_words (block_in (block_of o)) (member (the-volume o is) 0)) e)
+    at (suc zero) e = record-speaks o is (member (the-volume o is) 1) (pair o is).second (serial-is (slot_words (block_in (block_of o)) (member (the-volume o is) 1)) e)
+    at (suc (suc k)) e = absurd cc
+
+-- the disk that has it is one of the volume
+in-slot : (o : Opened) (is : IsOpening o) (slot d : ℕ) (words : SlotWords) → slice_get (block_words.slots (newest_of o) 0) slot ≡ Some words → words.serial ≡ serial_at o d → has d (members_of o) ≡ true
+in-slot o is slot d words there same = at (nat_lt d (length o.serials)) refl
+  where
+    at : (b : Bool) → nat_lt d (length o.serials) ≡ b → has d (members_of o) ≡ true
+    at true below =
+        in-flat (disks_in_slot o) d (block_words.slots (newest_of o) 0) slot words there (
+        has-filter d (λ k. bytes_eq words.serial (serial_at o k)) (numbers_of o)
+        ∙ and_from _ _ (range-has d 0 (length o.serials) (omega arith) (omega (arith, ltb-true d (length o.serials) below))) ((bytes_eq-Decides words.serial (serial_at o d)).1 same)
+        )
+    at false past = absurd (slot-speaks o is slot words there (same ∙ get_or_past o.serials d [] (ltb-false d (length o.serials) past)))
 
 -- THE ROOM ON EACH DISK
 
@@ -202,6 +251,7 @@ rows-are o is =
 pub first-volume : (o : Opened) (asked : Asked) (content : ℕ → ℕ → Sector) (unsure : ℕ → ℕ → Bool) → IsOpening o → IsFirstVolume (setting_of o asked content unsure)
 first-volume o asked content unsure is = record {
   level = ap (λ (s : Shape). s.level) (mirror o is).shape ∙ (mirror o is).clean.level;
+  two = ap (λ (ws : List SlotWords). length ws) (mirror o is).slots;
   rows = rows-are o is;
   started = refl;
   members = λ d member.
@@ -212,5 +262,6 @@ first-volume o asked content unsure is = record {
         member = record { words = m.words; there = m.there; same = m.same };
         in_sync = slot-in-sync o is m.slot m.words m.there;
       };
+  each_slot = λ slot d m. in-slot o is slot d m.words m.there m.same;
   room = λ d target. room-on o is d (target-below o d target);
 }

@@ -13,7 +13,7 @@ ghost use Rattle.array_model.specs.Renewal.{IsRenewable};
 ghost use Rattle.block_words.specs.Reading.{block_words};
 ghost use Rattle.block_words.specs.Renewed.{renewed, renewed_bytes};
 ghost use Rattle.stage_machine.specs.Setting.{Renews};
-ghost use Rattle.stage_machine.specs.Opens.{AsksFirst, StandsOnAll, IsFirstVolume, HoldsContent};
+ghost use Rattle.stage_machine.specs.Opens.{AsksFirst, StandsOnAll, IsFirstVolume, StartsFirstAlone, HoldsContent};
 ghost use Rattle.first_opening.specs.Opened.{Opened, IsOpening, serial_at, newest_of, block_of, numbers_of, targets_of, members_of, setting_of, is_first_op};
 ghost use Rattle.first_opening.specs.Copies.{HoldsCopies, first_copy, differs};
 ghost use Rattle.first_opening.specs.Worked.{mirror_opened};
@@ -41,6 +41,11 @@ pub fn the_newest_block_stands_on_all()
 /// The volume is a started mirror, whose slots are in sync, and it ends before the sectors that are kept for metadata.
 pub fn the_volume_is_a_started_mirror()
     ensures { (o : Opened) (asked : Asked) (content : ℕ → ℕ → Sector) (unsure : ℕ → ℕ → Bool) → IsOpening o → IsFirstVolume (setting_of o asked content unsure) }
+{}
+
+/// No other volume is started.
+pub fn the_first_volume_starts_alone()
+    ensures { (o : Opened) (asked : Asked) (content : ℕ → ℕ → Sector) (unsure : ℕ → ℕ → Bool) → StartsFirstAlone (setting_of o asked content unsure) }
 {}
 
 /// The volume has two disks, which have the serials of its slots, in their order.

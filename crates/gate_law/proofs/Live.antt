@@ -177,7 +177,7 @@ pub goes_active : (S : Setting) (c : Control) (k i : ℕ) (left : List ℕ) (ste
 goes_active S c k i left step need live has is some w =
     writable_active c.state step (subst (λ (x : Client). JobWritable S c.state x.job) has (live k) w) (not_pending S c k i step need is some w)
 
-writing_there : (S : Setting) (clients : List Client) (k : ℕ) → is_writing S (client_at clients k).job ≡ true → any_writing S clients ≡ true
+pub writing_there : (S : Setting) (clients : List Client) (k : ℕ) → is_writing S (client_at clients k).job ≡ true → any_writing S clients ≡ true
 writing_there S [] k h = absurd cc
 writing_there S (x ∷ xs) zero h = rw h refl
 writing_there S (x ∷ xs) (suc k) h = right (is_writing S x.job) (writing_there S xs k h)

@@ -44,7 +44,7 @@ pub record Kept (S : Setting) (w : World) : Type 0 where
 -- ONE VOLUME
 
 -- what a script asks for reads or writes volume 0
-kind_first : (ops : List Op) (i : ℕ) (kind : OpKind) → AllByRecursion (λ op. IsInFirst op.kind) ops → kind_at ops i ≡ Some kind → IsInFirst kind
+pub kind_first : (ops : List Op) (i : ℕ) (kind : OpKind) → AllByRecursion (λ op. IsInFirst op.kind) ops → kind_at ops i ≡ Some kind → IsInFirst kind
 kind_first [] i kind all is = absurd cc
 kind_first (op ∷ ops) zero kind all is = let same : op.kind ≡ kind = cc is in subst IsInFirst same all.0
 kind_first (op ∷ ops) (suc i) kind all is = kind_first ops i kind all.1 is

@@ -8,15 +8,15 @@ use Rattle.array_model.specs.declared.journal.Entry.{Entry}
 use Rattle.array_model.specs.declared.journal.Event.{Event}
 use Rattle.array_model.specs.declared.journal.Event.TheVariants.{Submit, Ack}
 use Rattle.array_model.specs.Script.{is_of_client}
-use Rattle.array_model.specs.Events.{has}
+use Rattle.array_model.specs.Events.{has, is_ack_of}
 use Rattle.array_model.specs.AnswerLaw.{Step, steps_of, step_of, steps_due}
+use Rattle.array_model.proofs.Steps.{pair}
 use Rattle.stage_machine.specs.Setting.{Setting}
 use Rattle.stage_machine.specs.Opens.{AsksFirst}
 use Rattle.stage_machine.specs.Jobs.{NoJob, client_at}
 use Rattle.stage_machine.specs.Machine.{World, Reached}
 use Rattle.stage_machine.proofs.Clients.{same}
 use Rattle.answer_law.proofs.Order.{todo, due_reached}
-use Rattle.rest_law.specs.Rest.{is_ack_of}
 
 abbrev pub contains : ℕ → List ℕ → Bool
 contains i xs = list_any (λ j. j == i) xs
@@ -52,9 +52,6 @@ in_filter test i passes (x ∷ xs) h = at (x == i) refl (test x) refl (in_filter
     at true is false p more h = absurd (let here : x ≡ i = grind (arith, nat_tests, is) in cc (ap test here, p, passes))
     at false is true p more h = or_right (x == i) (contains i (filter test xs)) (more h)
     at false is false p more h = more h
-
-abbrev pair : ℕ → List Step
-pair i = record { is_ack = false; op = i } ∷ record { is_ack = true; op = i } ∷ []
 
 in_pairs : (i : ℕ) (xs : List ℕ) → contains i xs ≡ true → acked i (flat_map pair xs) ≡ true
 in_pairs i [] h = h
@@ -98,12 +95,7 @@ acked_all S asks w r k idle i lt mine =
     let all : steps_due S.asked.ops k ≡ steps_of S.asked.ops k w.journal = due ∙ ap (λ x. steps_of S.asked.ops k w.journal ++ todo x) idle ∙ append_none (steps_of S.asked.ops k w.journal) in
     in_steps S.asked.ops k i w.journal (subst (λ steps. acked i steps ≡ true) all (is_due S.asked.ops k i lt mine))
 
--- each operation is of a client from 0 to 15
-pub owner : (ops : List Op) → AllByRecursion (λ op. op.client < 16) ops → (i : ℕ) → i < length ops → (k : ℕ) × (is_of_client ops k i ≡ true)
-owner [] all i lt = absurd (omega (arith, lt))
-owner (op ∷ ops) all zero lt = (op.client, same op.client)
-owner (op ∷ ops) all (suc i) lt = owner ops all.1 i (omega (arith, lt))
-
+-- the clients are 0 to 15
 pub client_below : (ops : List Op) → AllByRecursion (λ op. op.client < 16) ops → (k i : ℕ) → is_of_client ops k i ≡ true → k < 16
 client_below [] all k i mine = absurd cc
 client_below (op ∷ ops) all k zero mine = let is : op.client ≡ k = grind (arith, nat_tests, mine) in subst (λ z. z < 16) is all.0

@@ -9,9 +9,12 @@ use Rattle.array_model.specs.declared.script.OpKind.{OpKind}
 use Rattle.array_model.specs.declared.script.OpKind.TheVariants.{Write as OpWrite, Read as OpRead, Whole as OpWhole}
 use Rattle.array_model.specs.Script.{kind_at, sector_of}
 use Rattle.array_model.specs.Placement.{Place}
+use Rattle.array_model.specs.Causes.{told_of}
+use Rattle.array_model.specs.Rests.{is_owed, RestsAs, HasComeToRest}
 use Rattle.array_model.specs.Blocks.{Laid}
+use Rattle.array_model.proofs.Steps.{owner}
 use Rattle.stage_machine.specs.Setting.{Setting}
-use Rattle.stage_machine.specs.Opens.{AsksFirst}
+use Rattle.stage_machine.specs.Opens.{AsksFirst, IsFirstVolume, StartsFirstAlone}
 use Rattle.stage_machine.specs.States.{State, IsReadonly, IsReadAuto, IsClean, IsPending, IsActive, IsIdle, is_readonly, is_pending_state, next_dirty, Starts, decide}
 use Rattle.stage_machine.specs.Rounds.{Phase, Rest, Going, Ended, round_call, begin_with}
 use Rattle.stage_machine.specs.Jobs.{JobStep, Waiting, Writing, Syncing, Written, Got, Job, NoJob, Busy, Client, client_at, place_at, row_at, is_write, holds, locked_from, is_locked, is_writing, any_writing, Need, NoNeed, Reads, Writes, Syncs, Answers, read_need, write_need, sync_need, first_need, need_of, need_call}
@@ -19,10 +22,13 @@ use Rattle.stage_machine.specs.Machine.{Control, World, Reached, Action, Monitor
 use Rattle.stage_machine.proofs.Turns.{Has}
 use Rattle.stage_machine.proofs.Clients.{mine_reached, of_left, of_job, op_below}
 use Rattle.answer_law.proofs.Locks.{job_of, Exclusive, exclusive_reached, holds_own}
+use Rattle.cause_law.proofs.States.{told_by, told_reached}
+use Rattle.cause_law.proofs.Courses.{resting_course, phase_course, course_reached}
 use Rattle.rest_law.specs.Rest.{IsStill, IsAtRest, CanEnd, HasEnded, is_whole}
 use Rattle.rest_law.proofs.Rounds.{HasTarget, Tidy, tidy_reached}
 use Rattle.rest_law.proofs.Steps.{HasMember, JobHasMember, steps_reached}
-use Rattle.rest_law.proofs.Acks.{acked_all, owner, client_below}
+use Rattle.rest_law.proofs.Owed.{due_reached}
+use Rattle.rest_law.proofs.Acks.{acked_all, client_below}
 
 -- WHAT A SCRIPT OF ROWS ASKS
 
@@ -173,6 +179,11 @@ calm_at S c tidy target true IsPending false false same e = starts_enters S c ti
 calm_at S c tidy target true IsActive recorded dirty same e = tt
 calm_at S c tidy target true IsIdle recorded dirty same e = cc e
 
+started_at : (S : Setting) (c : Control) → Tidy S c.round → 1 ≤ length S.targets → (started : Bool) (state : State) (recorded dirty : Bool)
+    → (moved S c (decide started state recorded dirty)).events ≡ [] → started ≡ true
+started_at S c tidy target false state recorded dirty e = absurd (starts_enters S c tidy target e)
+started_at S c tidy target true state recorded dirty e = refl
+
 none_writing : (S : Setting) (clients : List Client) → ((k : ℕ) → (client_at clients k).job ≡ NoJob) → any_writing S clients ≡ false
 none_writing S [] free = refl
 none_writing S (x ∷ xs) free = rw (ap (is_writing S) (free 0)) (none_writing S xs (λ k. free (suc k)))
@@ -200,10 +211,16 @@ module _ (S : Setting) (asks : AsksFirst S) (can : CanEnd S) (w : World) (r : Re
       at (Going m step []) is h = absurd h
       at (Going m step (d ∷ ds)) is h = absurd (let lie = ap (round_call S went) (sym is) ∙ no_call (Monitors went) (rest.monitor went) in cc lie)
 
+  monitor_idle : (moved S c (decide c.round.started c.state (S.start.words.is_dirty c.round.last 0) (S.start.words.is_dirty c.round.book 0))).events ≡ []
+  monitor_idle = ap (λ p. (monitor_at S c went p).events) (sym phase_rest) ∙ no_event (Monitors went) (rest.monitor went)
+
+  started : c.round.started ≡ true
+  started = started_at S c tidy can.target c.round.started c.state (S.start.words.is_dirty c.round.last 0) (S.start.words.is_dirty c.round.book 0) monitor_idle
+
   calm : Calm c.state (S.start.words.is_dirty c.round.book 0)
   calm =
       calm_at S c tidy can.target c.round.started c.state (S.start.words.is_dirty c.round.last 0) (S.start.words.is_dirty c.round.book 0) (ap (λ m. S.start.words.is_dirty m 0) (sym tidy.book))
-      (ap (λ p. (monitor_at S c went p).events) (sym phase_rest) ∙ no_event (Monitors went) (rest.monitor went))
+      monitor_idle
 
   -- a job whose row no other client holds moves
   moves : (k i : ℕ) (left : List ℕ) (step : JobStep) → Has c k left (Busy i step) → is_locked S (row_at S i) k c.clients ≡ false → ⊥
@@ -264,6 +281,12 @@ module _ (S : Setting) (asks : AsksFirst S) (can : CanEnd S) (w : World) (r : Re
   idle_client : (k : ℕ) → client_at c.clients k ≡ record { left = []; job = NoJob }
   idle_client k = ap (λ left. record { left = left; job = (client_at c.clients k).job }) (none_left k) ∙ ap (λ job. record { left = []; job = job }) (no_job k)
 
+  not_active : c.state ≡ IsActive → ⊥
+  not_active is =
+      let enters : (quieted S c IsActive).events ≡ [] = ap (λ s. (quieted S c s).events) (sym is) ∙ no_event Quiets rest.quiet in
+      let lie : (quiet_if c true).events ≡ [] = ap (λ b. (quiet_if c (not b)).events) (sym (none_writing S c.clients no_job)) ∙ enters in
+      absurd (cc lie)
+
   clean : S.start.words.is_dirty c.round.last 0 ≡ false
   clean = ap (λ m. S.start.words.is_dirty m 0) (sym tidy.book) ∙ at c.state refl calm
     where
@@ -272,15 +295,37 @@ module _ (S : Setting) (asks : AsksFirst S) (can : CanEnd S) (w : World) (r : Re
       at IsReadAuto is calm = calm
       at IsClean is calm = calm
       at IsPending is calm = absurd calm
-      at IsActive is calm = absurd (
-          let enters : (quieted S c IsActive).events ≡ [] = ap (λ s. (quieted S c s).events) (sym is) ∙ no_event Quiets rest.quiet in
-          let lie : (quiet_if c true).events ≡ [] = ap (λ b. (quiet_if c (not b)).events) (sym (none_writing S c.clients no_job)) ∙ enters in
-          cc lie)
+      at IsActive is calm = absurd (not_active is)
       at IsIdle is calm = absurd calm
 
   pub ended : HasEnded S w
   ended = record {
-    answered = λ i lt. let own = owner S.asked.ops asks.clients i lt in acked_all S asks w r own.0 (idle_client own.0) i lt own.1;
+    answered = λ i lt. let own = owner S.asked.ops i lt in acked_all S asks w r own.0 (idle_client own.0) i lt own.1;
     no_round = phase_rest;
     clean = clean;
+  }
+
+  -- THE SAME BY THE JOURNAL
+
+  rests_as : RestsAs (told_by c.state) (is_owed w.journal 0)
+  rests_as = at c.state refl calm
+    where
+      paid : c.state ≡ IsClean → S.start.words.is_dirty c.round.book 0 ≡ false → (owed : Bool) → is_owed w.journal 0 ≡ owed → owed ≡ false
+      paid is book true owes = absurd (let due = due_reached S w r owes is in let dirty = due.1 in cc (book, dirty))
+      paid is book false owes = refl
+
+      at : (state : State) → c.state ≡ state → Calm state (S.start.words.is_dirty c.round.book 0) → RestsAs (told_by state) (is_owed w.journal 0)
+      at IsReadonly is calm = absurd calm
+      at IsReadAuto is calm = tt
+      at IsClean is calm = paid is calm (is_owed w.journal 0) refl
+      at IsPending is calm = absurd calm
+      at IsActive is calm = absurd (not_active is)
+      at IsIdle is calm = absurd calm
+
+  pub told_at_rest : IsFirstVolume S → StartsFirstAlone S → HasComeToRest S.start S.asked.ops w.journal
+  told_at_rest volume alone = record {
+    answered = ended.answered;
+    recorded = course_reached S w r ∙ ap (phase_course c.round.started c.round.note) phase_rest ∙ ap resting_course started;
+    volumes = λ v is. subst (λ z. RestsAs (told_of S.start S.asked.ops w.journal z) (is_owed w.journal z)) (sym (alone v is))
+        (subst (λ t. RestsAs t (is_owed w.journal 0)) (sym (told_reached S asks volume w r)) rests_as);
   }

@@ -1,12 +1,10 @@
 -- Where a run rests, and what has come of its script there. Source: this project's own.
-use Rattle.std.specs.Prelude.{◌≡◌, ℕ, ◌<◌, ◌≤◌, ◌==◌, Bool, true, false, [], length, None}
+use Rattle.std.specs.Prelude.{◌≡◌, ℕ, ◌<◌, ◌≤◌, Bool, true, false, [], length, None}
 use Rattle.std.specs.List.{AllByRecursion}
 use Rattle.imsm_base.specs.declared.units.Sector.{Sector}
 use Rattle.array_model.specs.declared.script.OpKind.{OpKind}
 use Rattle.array_model.specs.declared.script.OpKind.TheVariants.{Write, Read, Whole}
-use Rattle.array_model.specs.declared.journal.Event.{Event}
-use Rattle.array_model.specs.declared.journal.Event.TheVariants.{Ack}
-use Rattle.array_model.specs.Events.{has}
+use Rattle.array_model.specs.Events.{has, is_ack_of}
 use Rattle.array_model.specs.Rounds.{DurableOnWorking}
 use Rattle.stage_machine.specs.Setting.{Setting}
 use Rattle.stage_machine.specs.Rounds.{Ended, Rest}
@@ -33,11 +31,6 @@ pub record CanEnd (S : Setting) : Type 0 where
   pub rows_alone : AllByRecursion (λ op. is_whole op.kind ≡ false) S.asked.ops
   pub target : 1 ≤ length S.targets
   pub member : 1 ≤ length S.members
-
--- op i was answered
-abbrev pub is_ack_of : ℕ → Event → Bool
-is_ack_of i (Ack j answer) = j == i
-is_ack_of i _ = false
 
 -- each operation of the script was answered, no round is going on, and the block of the last finished round says that
 -- volume 0 is clean

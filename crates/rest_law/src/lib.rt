@@ -6,8 +6,9 @@ mod worked;
 ghost use Rattle.std.specs.Prelude.{◌≡◌, ℕ, ◌<◌, None};
 ghost use Rattle.imsm_base.specs.declared.units.Sector.{Sector};
 ghost use Rattle.array_model.specs.Renewal.{FitsGeneration};
+ghost use Rattle.array_model.specs.Rests.{HasComeToRest};
 ghost use Rattle.stage_machine.specs.Setting.{Setting, Renews};
-ghost use Rattle.stage_machine.specs.Opens.{AsksFirst, StandsOnAll, IsFirstVolume};
+ghost use Rattle.stage_machine.specs.Opens.{AsksFirst, StandsOnAll, IsFirstVolume, StartsFirstAlone};
 ghost use Rattle.stage_machine.specs.Rounds.{Ended};
 ghost use Rattle.stage_machine.specs.Machine.{Control, World, Reached, Monitors, Asks, Quiets};
 ghost use Rattle.rest_law.specs.Rest.{CanEnd, IsStill, IsAtRest, HasEnded, IsDurablyClean};
@@ -25,4 +26,15 @@ pub fn rest_law()
 /// Whether a turn has anything to do doesn't hang on how its call would end: a turn of each actor tells.
 pub fn one_end_tells()
     ensures { (S : Setting) (c : Control) (x : Ended) (ends : ℕ → Ended) (gives : ℕ → Sector) → IsStill S c (Monitors x) → ((k : ℕ) → k < 16 → IsStill S c (Asks k (ends k) (gives k))) → IsStill S c Quiets → IsAtRest S c }
+{}
+
+/// Whether a run rests its journal tells alone. Where no actor has anything to do, and no call has failed, each operation
+/// was answered, the last round has ended, and each started volume is told to be read-auto, or clean with a round begun
+/// since. Where a journal tells that, no actor has anything to do.
+pub fn rest_is_told()
+    ensures told { (S : Setting) (w : World) → AsksFirst S → CanEnd S → IsFirstVolume S → StartsFirstAlone S → Reached S w
+        → w.control.failed ≡ None → IsAtRest S w.control → HasComeToRest S.start S.asked.ops w.journal }
+    ensures rests { (S : Setting) (w : World) → AsksFirst S → Renews S → StandsOnAll S → IsFirstVolume S
+        → FitsGeneration w.control.round.note → Reached S w
+        → HasComeToRest S.start S.asked.ops w.journal → IsAtRest S w.control }
 {}

@@ -1,13 +1,13 @@
 -- A failed call ends a run: it is the last call.
-use Rattle.std.proofs.Common.{◌≡◌, ℕ, true, List, [], ◌∷◌, ◌++◌, refl, ap, sym, subst, ◌⊎◌, inl, inr, Option, Some, None}
+use Rattle.std.proofs.Common.{◌≡◌, ℕ, true, false, List, [], ◌∷◌, ◌++◌, refl, ap, sym, ◌∙◌, subst, ◌⊎◌, inl, inr, Option, Some, None}
 use Rattle.std.specs.Prelude.{⊤}
-use Rattle.std.specs.List.{AllByRecursion}
 use Rattle.imsm_base.specs.declared.units.Sector.{Sector}
-use Rattle.device_log.specs.Log.{Call}
+use Rattle.device_log.specs.Log.{Call, What}
 use Rattle.array_model.specs.declared.journal.Event.{Event}
+use Rattle.array_model.specs.FailureLaw.{AllWent, EndsAtFailure}
 use Rattle.array_model.proofs.Journals.{all-append}
 use Rattle.stage_machine.specs.Setting.{Setting}
-use Rattle.stage_machine.specs.Machine.{Control, World, Action, Reached, opens, goes, happens, call_of, call_unless, got_of, turned, turned_unless, log_after}
+use Rattle.stage_machine.specs.Machine.{Control, World, Out, Action, Reached, opens, goes, happens, idle, call_of, call_unless, got_of, turned, turned_unless, log_after}
 use Rattle.stage_machine.proofs.Turns.{Turns, turns_of, nothing, fails, anchors, settles, ends, begins, readies, actives, cleans, rests, pasts, asks_read, asks_write, puts, syncs, gets, acks}
 
 -- a run goes on, or this turn does nothing
@@ -18,61 +18,79 @@ goes_or_not S c a = at c.failed refl
     at None is = inl is
     at (Some d) is = inr (ap (call_unless S c a) is, ap (λ f. (turned_unless S c a f).events) is)
 
-abbrev pub AllWent : List Call → Type 0
-AllWent log = AllByRecursion (λ call. call.went ≡ true) log
-
 abbrev pub WentOf : Option Call → Type 0
 WentOf None = ⊤
 WentOf (Some call) = call.went ≡ true
 
+-- a turn's call fails, on this disk
+record Fails (call : Option Call) (next : Control) : Type 0 where
+  disk : ℕ
+  what : What
+  last : call ≡ Some (record { disk = disk; what = what; went = false })
+  ends : next.failed ≡ Some disk
+
+-- a turn fails no call, and leaves the disk that failed as it was; or its call fails
+abbrev Fate : Control → Option Call → Control → Type 0
+Fate c call next = ((next.failed ≡ c.failed) × WentOf call) ⊎ Fails call next
+
+fate : (S : Setting) (c : Control) (got : Sector) {call : Option Call} {es : List Event} {next : Control} → Turns S c got call es next → Fate c call next
+fate S c got nothing = inl (refl, tt)
+fate S c got (fails d what asked) = inr (record { disk = d; what = what; last = refl; ends = refl })
+fate S c got (anchors m d ds is) = inl (refl, refl)
+fate S c got (settles m d e ds is) = inl (refl, refl)
+fate S c got (ends m d is) = inl (refl, refl)
+fate S c got (begins d ds is some why) = inl (refl, tt)
+fate S c got (readies is s t) = inl (refl, tt)
+fate S c got (actives is s t r) = inl (refl, tt)
+fate S c got (cleans is s t) = inl (refl, tt)
+fate S c got (rests t calm) = inl (refl, tt)
+fate S c got (pasts k i rest has none) = inl (refl, tt)
+fate S c got (asks_read k i rest place has is w live) = inl (refl, tt)
+fate S c got (asks_write k i rest place has is w live) = inl (refl, tt)
+fate S c got (puts k i left step d ds has need) = inl (refl, refl)
+fate S c got (syncs k i left step d ds has need) = inl (refl, refl)
+fate S c got (gets k i left step d has need) = inl (refl, refl)
+fate S c got (acks k i left step answer has need) = inl (refl, tt)
+
 -- a run that goes on after a turn went on before it, and the turn's call went through
 pub went_on : (S : Setting) (c : Control) (got : Sector) {call : Option Call} {es : List Event} {next : Control} → Turns S c got call es next → next.failed ≡ None → (c.failed ≡ None) × WentOf call
-went_on S c got nothing alive = (alive, tt)
-went_on S c got (fails d what asked) alive = absurd cc
-went_on S c got (anchors m d ds is) alive = (alive, refl)
-went_on S c got (settles m d e ds is) alive = (alive, refl)
-went_on S c got (ends m d is) alive = (alive, refl)
-went_on S c got (begins d ds is some why) alive = (alive, tt)
-went_on S c got (readies is s t) alive = (alive, tt)
-went_on S c got (actives is s t r) alive = (alive, tt)
-went_on S c got (cleans is s t) alive = (alive, tt)
-went_on S c got (rests t calm) alive = (alive, tt)
-went_on S c got (pasts k i rest has none) alive = (alive, tt)
-went_on S c got (asks_read k i rest place has is w live) alive = (alive, tt)
-went_on S c got (asks_write k i rest place has is w live) alive = (alive, tt)
-went_on S c got (puts k i left step d ds has need) alive = (alive, refl)
-went_on S c got (syncs k i left step d ds has need) alive = (alive, refl)
-went_on S c got (gets k i left step d has need) alive = (alive, refl)
-went_on S c got (acks k i left step answer has need) alive = (alive, tt)
+went_on S c got {call} {es} {next} t alive = at (fate S c got t)
+  where
+    at : Fate c call next → (c.failed ≡ None) × WentOf call
+    at (inl same) = (sym same.0 ∙ alive, same.1)
+    at (inr it) = absurd (let ends = it.ends in cc (ends, alive))
 
 went_after : (log : List Call) (call : Option Call) → AllWent log → WentOf call → AllWent (log_after log call)
 went_after log None all went = all
 went_after log (Some call) all went = all-append (λ (x : Call). x.went ≡ true) log (call ∷ []) all (went, tt)
 
--- each call but the last went through
-pub record OnlyLast (log : List Call) : Type 0 where
-  pub before : List Call
-  pub last : Call
-  pub parts : log ≡ before ++ last ∷ []
-  pub went : AllWent before
+-- the log after a turn of a run that goes on
+ends_fate : (c : Control) (log : List Call) (call : Option Call) (next : Control) → c.failed ≡ None → AllWent log → Fate c call next → EndsAtFailure (log_after log call) next.failed
+ends_fate c log call next alive all (inl same) = subst (EndsAtFailure (log_after log call)) (sym (same.0 ∙ alive)) (went_after log call all same.1)
+ends_fate c log call next alive all (inr it) =
+    subst (λ (x : Option Call). EndsAtFailure (log_after log x) next.failed) (sym it.last)
+    (subst (EndsAtFailure (log ++ record { disk = it.disk; what = it.what; went = false } ∷ [])) (sym it.ends) (record {
+      before = log;
+      last = record { disk = it.disk; what = it.what; went = false };
+      parts = refl;
+      went = all;
+      on_disk = refl;
+      fails = refl;
+    }))
 
-pub record Calls (w : World) : Type 0 where
-  pub live : w.control.failed ≡ None → AllWent w.log
-  pub most : AllWent w.log ⊎ OnlyLast w.log
+ends_turn : (S : Setting) (w : World) (a : Action) → EndsAtFailure w.log w.control.failed → EndsAtFailure (happens S w a).log (happens S w a).control.failed
+ends_turn S w a h = at w.control.failed refl
+  where
+    at : (failed : Option ℕ) → w.control.failed ≡ failed → EndsAtFailure (happens S w a).log (happens S w a).control.failed
+    at None is =
+        ends_fate w.control w.log (call_of S w.control a) (turned S w.control a).next is (subst (EndsAtFailure w.log) is h) (fate S w.control (got_of a) (turns_of S w.control a))
+    at (Some d) is =
+        let no_call : call_of S w.control a ≡ None = ap (call_unless S w.control a) is in
+        let same : turned S w.control a ≡ idle w.control = ap (turned_unless S w.control a) is in
+        subst (λ (x : Option Call). EndsAtFailure (log_after w.log x) (turned S w.control a).next.failed) (sym no_call)
+        (subst (λ (o : Out). EndsAtFailure w.log o.next.failed) (sym same) h)
 
-most_after : (log : List Call) (call : Option Call) → AllWent log → AllWent (log_after log call) ⊎ OnlyLast (log_after log call)
-most_after log None all = inl all
-most_after log (Some call) all = inr (record { before = log; last = call; parts = refl; went = all })
-
-calls_after_turn : (S : Setting) (w : World) (a : Action) → Calls w → Calls (happens S w a)
-calls_after_turn S w a h = record {
-  live = λ alive. let on = went_on S w.control (got_of a) (turns_of S w.control a) alive in went_after w.log (call_of S w.control a) (h.live on.0) on.1;
-  most = elim (goes_or_not S w.control a) [
-    | inl alive ↦ most_after w.log (call_of S w.control a) (h.live alive)
-    | inr idle ↦ subst (λ (x : Option Call). AllWent (log_after w.log x) ⊎ OnlyLast (log_after w.log x)) (sym idle.0) h.most
-  ];
-}
-
-pub calls_reached : (S : Setting) (w : World) → Reached S w → Calls w
-calls_reached S w opens = record { live = λ alive. tt; most = inl tt }
-calls_reached S w (goes {w = v} r a) = calls_after_turn S v a (calls_reached S v r)
+-- a run ends at the call that failed
+pub ends_reached : (S : Setting) (w : World) → Reached S w → EndsAtFailure w.log w.control.failed
+ends_reached S w opens = tt
+ends_reached S w (goes {w = v} r a) = ends_turn S v a (ends_reached S v r)

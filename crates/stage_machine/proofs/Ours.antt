@@ -9,6 +9,8 @@ use Rattle.array_model.specs.Events.{count, is_spare, is_ready, is_pass, is_pass
 use Rattle.imsm_base.specs.declared.units.Sector.{Sector}
 use Rattle.device_log.specs.Log.{Call}
 use Rattle.array_model.specs.Events.{has, is_faulty, up_to}
+use Rattle.array_model.specs.Rounds.{is_fault_of, is_lost}
+use Rattle.array_model.specs.Start.{Disks}
 use Rattle.array_model.proofs.Journals.{count-append, all-append}
 use Rattle.stage_machine.specs.Setting.{Setting}
 use Rattle.stage_machine.specs.States.{State, IsReadonly, IsReadAuto, IsClean, IsPending, IsActive, IsIdle, asked_events}
@@ -136,6 +138,14 @@ ours_reached S w (goes {w = v} r a) =
 pub none_faulty : (d : ℕ) (journal : List Entry) → AreOurs journal → is_faulty d journal ≡ false
 none_faulty d [] ours = refl
 none_faulty d (x ∷ xs) ours = rw (no_fault d x.event ours.0) (none_faulty d xs ours.1)
+
+no_fault_of : (disks : Disks) (serial : List ℕ) (e : Event) → IsOurs e → is_fault_of disks serial e ≡ false
+no_fault_of disks serial (Fault d) ours = absurd ours
+no_fault_of disks serial _ ours = refl
+
+pub none_lost : (disks : Disks) (serial : List ℕ) (journal : List Entry) → AreOurs journal → is_lost disks serial journal ≡ false
+none_lost disks serial [] ours = refl
+none_lost disks serial (x ∷ xs) ours = rw (no_fault_of disks serial x.event ours.0) (none_lost disks serial xs ours.1)
 
 pub ours_up_to : (n : ℕ) (journal : List Entry) → AreOurs journal → AreOurs (up_to n journal)
 ours_up_to n [] ours = tt

@@ -36,6 +36,22 @@ pub data Asked (S : Setting) (c : Control) : ℕ → What → Type 0 where
 abbrev pub went : ℕ → What → Option Call
 went d what = Some (record { disk = d; what = what; went = true })
 
+abbrev pub is_row_kind : Option OpKind → Bool
+is_row_kind None = false
+is_row_kind (Some (OpWrite v s value)) = true
+is_row_kind (Some (OpRead v s)) = true
+is_row_kind (Some (OpWhole v)) = false
+
+-- a read or a write, taken on where the volume is ready
+pub record IsRowTaken (S : Setting) (c : Control) (i : ℕ) : Type 0 where
+  pub row : is_row_kind (kind_at S.asked.ops i) ≡ true
+  pub ready : is_readonly c.state ≡ false
+
+-- the same, of a sector that isn't one of the volume
+pub record IsPast (S : Setting) (c : Control) (i : ℕ) : Type 0 where
+  pub taken : IsRowTaken S c i
+  pub none : place_at S i ≡ None
+
 -- a turn: its call, its entries, and the control state that it leaves
 pub data Turns (S : Setting) (c : Control) (got : Sector) : Option Call → List Event → Control → Type 0 where
   nothing : Turns S c got None [] c
@@ -55,8 +71,8 @@ pub data Turns (S : Setting) (c : Control) (got : Sector) : Option Call → List
       → Turns S c got None (Active the_volume ∷ []) (record c { state = IsActive })
   cleans : c.round.phase ≡ Rest → c.round.started ≡ true → c.state ≡ IsIdle → Turns S c got None (Clean the_volume ∷ []) (record c { state = IsClean })
   rests : c.state ≡ IsActive → any_writing S c.clients ≡ false → Turns S c got None (Idle the_volume ∷ []) (record c { state = IsIdle })
-  pasts : (k i : ℕ) (rest : List ℕ) → Has c k (i ∷ rest) NoJob → place_at S i ≡ None → Turns S c got None (Submit i ∷ Ack i Past ∷ []) (put_client c k rest NoJob)
-  asks_read : (k i : ℕ) (rest : List ℕ) (place : Place) → Has c k (i ∷ rest) NoJob → place_at S i ≡ Some place → is_write S i ≡ false → is_readonly c.state ≡ false
+  pasts : (k i : ℕ) (rest : List ℕ) → Has c k (i ∷ rest) NoJob → IsPast S c i → Turns S c got None (Submit i ∷ Ack i Past ∷ []) (put_client c k rest NoJob)
+  asks_read : (k i : ℕ) (rest : List ℕ) (place : Place) → Has c k (i ∷ rest) NoJob → place_at S i ≡ Some place → is_write S i ≡ false → IsRowTaken S c i
       → Turns S c got None (Submit i ∷ []) (put_client c k rest (Busy i Waiting))
   asks_write : (k i : ℕ) (rest : List ℕ) (place : Place) → Has c k (i ∷ rest) NoJob → place_at S i ≡ Some place → is_write S i ≡ true → is_readonly c.state ≡ false
       → Turns S c got None (Submit i ∷ asked_events c.state) (record (put_client c k rest (Busy i Waiting)) { state = asked_state c.state })
@@ -113,18 +129,18 @@ submit_turns : (S : Setting) (c : Control) (got : Sector) (k : ℕ) (left : List
 submit_turns S c got k [] has = nothing
 submit_turns S c got k (i ∷ rest) has = at (is_readonly c.state) refl
   where
-    write : is_write S i ≡ true → is_readonly c.state ≡ false → (place : Option Place) → place_at S i ≡ place → TurnsOut S c got None (submit_write c k i rest place)
-    write w live None is = pasts k i rest has is
-    write w live (Some place) is = asks_write k i rest place has is w live
+    write : is_row_kind (kind_at S.asked.ops i) ≡ true → is_write S i ≡ true → is_readonly c.state ≡ false → (place : Option Place) → place_at S i ≡ place → TurnsOut S c got None (submit_write c k i rest place)
+    write row w live None is = pasts k i rest has (record { taken = record { row = row; ready = live }; none = is })
+    write row w live (Some place) is = asks_write k i rest place has is w live
 
-    read : is_write S i ≡ false → is_readonly c.state ≡ false → (place : Option Place) → place_at S i ≡ place → TurnsOut S c got None (submit_read c k i rest place)
-    read w live None is = pasts k i rest has is
-    read w live (Some place) is = asks_read k i rest place has is w live
+    read : is_row_kind (kind_at S.asked.ops i) ≡ true → is_write S i ≡ false → is_readonly c.state ≡ false → (place : Option Place) → place_at S i ≡ place → TurnsOut S c got None (submit_read c k i rest place)
+    read row w live None is = pasts k i rest has (record { taken = record { row = row; ready = live }; none = is })
+    read row w live (Some place) is = asks_read k i rest place has is w (record { row = row; ready = live })
 
     kind : is_readonly c.state ≡ false → (kind : Option OpKind) → kind_at S.asked.ops i ≡ kind → TurnsOut S c got None (submit_kind S c k i rest kind)
     kind live None is = nothing
-    kind live (Some (OpWrite v s value)) is = write (rw is refl) live (place_at S i) refl
-    kind live (Some (OpRead v s)) is = read (rw is refl) live (place_at S i) refl
+    kind live (Some (OpWrite v s value)) is = write (rw is refl) (rw is refl) live (place_at S i) refl
+    kind live (Some (OpRead v s)) is = read (rw is refl) (rw is refl) live (place_at S i) refl
     kind live (Some (OpWhole v)) is = nothing
 
     at : (b : Bool) → is_readonly c.state ≡ b → TurnsOut S c got None (submit_unless S c k i rest b)

@@ -1,6 +1,6 @@
 -- How a run of the machine opens: the first form of a container, of one clean volume of two copies. Source: this
 -- project's own.
-use Rattle.std.specs.Prelude.{◌≡◌, ℕ, ◌+◌, ◌<◌, ◌≤◌, true, false, List, [], Some, ⊤}
+use Rattle.std.specs.Prelude.{◌≡◌, ℕ, ◌+◌, ◌<◌, ◌≤◌, true, false, List, [], length, Some, ⊤}
 use Rattle.std.specs.List.{AllByRecursion}
 use Rattle.imsm_base.specs.declared.bounds.TheConstants.{METADATA_SECTORS}
 use Rattle.imsm_base.specs.declared.units.Level.TheVariants.{One}
@@ -53,13 +53,20 @@ pub record IsMember (S : Setting) (d : ℕ) : Type 0 where
   pub member : HasInSlot S.start S.start.newest 0 slot d
   pub in_sync : member.words.is_in_sync ≡ true
 
--- the volume is of two copies, started and clean, and its rows end before the sectors that are kept for metadata
+-- the volume is of two copies, started and clean, its members are the disks of its two slots, and its rows end before the
+-- sectors that are kept for metadata
 pub record IsFirstVolume (S : Setting) : Type 0 where
   pub level : (the_shape S).level ≡ Some One
+  pub two : length (S.start.words.slots S.start.newest 0) ≡ 2
   pub rows : (the_shape S).size ≤ (the_shape S).rows
   pub started : S.start.is_started 0 ≡ true
   pub members : (d : ℕ) → has d S.members ≡ true → IsMember S d
+  pub each_slot : (slot d : ℕ) → HasInSlot S.start S.start.newest 0 slot d → has d S.members ≡ true
   pub room : (d : ℕ) → has d S.targets ≡ true → (the_shape S).pba + (the_shape S).rows + METADATA_SECTORS ≤ S.start.disks.sectors d
+
+-- no other volume is started
+abbrev pub StartsFirstAlone : Setting → Type 0
+StartsFirstAlone S = (v : ℕ) → S.start.is_started v ≡ true → v ≡ 0
 
 -- each member holds the content of each sector that isn't unsure
 abbrev pub HoldsContent : Setting → Type 0

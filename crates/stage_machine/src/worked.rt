@@ -3,7 +3,7 @@ ghost use Rattle.std.specs.Prelude.{◌≡◌};
 ghost use Rattle.array_model.specs.Small.{worked_log, worked_journal};
 ghost use Rattle.array_model.specs.Renewal.{IsRenewable};
 ghost use Rattle.stage_machine.specs.Machine.{run, begins_at};
-ghost use Rattle.stage_machine.specs.Opens.{AsksFirst, StandsOnAll, IsFirstVolume, HoldsContent};
+ghost use Rattle.stage_machine.specs.Opens.{AsksFirst, StandsOnAll, IsFirstVolume, StartsFirstAlone, HoldsContent};
 ghost use Rattle.stage_machine.specs.Setting.{Renews};
 ghost use Rattle.stage_machine.specs.Worked.{small_setting, the_turns};
 
@@ -21,5 +21,6 @@ pub fn the_worked_setting_opens()
     ensures renewable { IsRenewable small_setting.start.words small_setting.start.newest }
     ensures stands { StandsOnAll small_setting }
     ensures volume { IsFirstVolume small_setting }
+    ensures alone { StartsFirstAlone small_setting }
     ensures content { HoldsContent small_setting }
 {}

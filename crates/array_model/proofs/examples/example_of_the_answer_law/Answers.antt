@@ -19,7 +19,7 @@ order c = at (0 == c) refl
 first_expected : (m : Laid) → IsFinished small_start (take 12 worked_log) (up_to 12 worked_journal) m → small_expects m (65 ∷ []) ≡ true
 first_expected m (stamp, begun, round) =
     let four : stamp ≡ 4 = cc begun in
-    written_passes (λ m. small_expects m (65 ∷ [])) round.disk (drop 4 (take 12 worked_log)) m refl (subst (λ z. In m (writes small_words small_disks round.disk (drop z (take 12 worked_log)))) four round.written)
+    written_passes small_words small_disks (λ s. refl) (λ m. small_expects m (65 ∷ [])) round.disk (drop 4 (take 12 worked_log)) m refl (subst (λ z. In m (writes small_words small_disks round.disk (drop z (take 12 worked_log)))) four round.written)
 
 read_five : MayRead small_start worked_log worked_journal 12 0 5
 read_five = record {

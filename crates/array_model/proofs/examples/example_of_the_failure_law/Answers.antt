@@ -8,7 +8,7 @@ use Rattle.array_model.specs.Events.{is_faulty}
 use Rattle.array_model.specs.Rounds.{IsRound, DurableOnWorking}
 use Rattle.array_model.specs.FailureLaw.{WasMeant}
 use Rattle.array_model.specs.Script.{sector_of}
-use Rattle.array_model.specs.Small.{bytes_at, small_serial, the_value, block, small_start, small_expects, small_slot, failing_log, failing_journal, hasty_journal}
+use Rattle.array_model.specs.Small.{bytes_at, small_serial, the_value, block, small_start, small_words, small_disks, small_expects, small_slot, failing_log, failing_journal, hasty_journal}
 use Rattle.array_model.proofs.Written.{written_passes, call_passes}
 use Rattle.array_model.proofs.SmallKeeps.{Stays, keeps_small}
 use Rattle.array_model.proofs.examples.example_of_the_failure_law.Goals as goal
@@ -24,11 +24,11 @@ abbrev second_expected : Laid → Bool
 second_expected m = (bytes_at 0 m == 4) || small_expects m (66 ∷ [])
 
 first_stays : (front : List Entry) (stamp g : ℕ) (m : Laid) → EachCallPasses first_expected (drop stamp failing_log) → IsRound small_start failing_log stamp g m → Stays front m (65 ∷ [])
-first_stays front stamp g m passes round = inl (written_passes first_expected round.disk (drop stamp failing_log) m passes round.written)
+first_stays front stamp g m passes round = inl (written_passes small_words small_disks (λ s. refl) first_expected round.disk (drop stamp failing_log) m passes round.written)
 
 second_stays : (front : List Entry) (stamp g : ℕ) (m : Laid) → (g == 4) ≡ false → EachCallPasses second_expected (drop stamp failing_log) → IsRound small_start failing_log stamp g m → Stays front m (66 ∷ [])
 second_stays front stamp g m other passes round =
-    inl (at (bytes_at 0 m) round.generation (written_passes second_expected round.disk (drop stamp failing_log) m passes round.written))
+    inl (at (bytes_at 0 m) round.generation (written_passes small_words small_disks (λ s. refl) second_expected round.disk (drop stamp failing_log) m passes round.written))
   where
     at : (n : ℕ) → n ≡ g → ((n == 4) || small_expects m (66 ∷ [])) ≡ true → small_expects m (66 ∷ []) ≡ true
     at n same h = let no : (n == 4) ≡ false = subst (λ z. (z == 4) ≡ false) (sym same) other in from (n == 4) no h

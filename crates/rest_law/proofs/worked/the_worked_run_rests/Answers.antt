@@ -1,20 +1,11 @@
-use Rattle.std.proofs.Common.{◌≡◌, ℕ, zero, suc, List, [], ◌∷◌, refl, ap, ◌∙◌, arith, None}
+use Rattle.std.proofs.Common.{◌≡◌, ℕ, zero, suc, List, [], ◌∷◌, refl, arith}
 use Rattle.std.specs.List.{AllByRecursion}
-use Rattle.imsm_base.specs.declared.units.Sector.{Sector}
 use Rattle.stage_machine.specs.Setting.{Setting}
-use Rattle.stage_machine.specs.Rounds.{Ended}
 use Rattle.stage_machine.specs.Jobs.{Client, no_client, client_at}
-use Rattle.stage_machine.specs.Machine.{Control, World, Action, Reached, opens, goes, happens, run, begins_at, Asks, job_call, client_by, call_unless, turned_unless}
+use Rattle.stage_machine.specs.Machine.{Control, World, Action, Reached, opens, goes, happens, run, begins_at}
 use Rattle.stage_machine.specs.Worked.{small_setting, the_turns}
-use Rattle.rest_law.specs.Rest.{IsStill}
+use Rattle.rest_law.proofs.Told.{nothing_left}
 use Rattle.rest_law.proofs.worked.the_worked_run_rests.Goals as goal
-
--- a client with nothing left and no job has nothing to do
-nothing_left : (S : Setting) (c : Control) (k : ℕ) (x : Ended) (got : Sector) → c.failed ≡ None → client_at c.clients k ≡ no_client → IsStill S c (Asks k x got)
-nothing_left S c k x got alive is = record {
-  calls = ap (call_unless S c (Asks k x got)) alive ∙ ap (λ (y : Client). job_call S c k x y.job) is;
-  enters = ap (λ f. (turned_unless S c (Asks k x got) f).events) alive ∙ ap (λ (y : Client). (client_by S c k x got y.left y.job).events) is;
-}
 
 abbrev end : Control
 end = (run small_setting (begins_at small_setting) the_turns).control

@@ -1,6 +1,8 @@
-use Rattle.std.proofs.Common.{◌≡◌, ℕ, zero, suc, ◌==◌, Bool, true, false, [], ◌∷◌, refl, arith}
+use Rattle.std.proofs.Common.{◌≡◌, ℕ, zero, suc, ◌==◌, Bool, true, false, [], ◌∷◌, inl, inr, refl, sym, subst, arith}
 use Rattle.std.proofs.lemmas.Bool.Decides.{nat_tests}
+use Rattle.array_model.specs.FailureLaw.{HasInSlot}
 use Rattle.array_model.specs.Small.{small_start, small_slot}
+use Rattle.array_model.proofs.SmallFacts.{slot_disk}
 use Rattle.stage_machine.specs.Setting.{has}
 use Rattle.stage_machine.specs.Opens.{IsMember}
 use Rattle.stage_machine.specs.Worked.{small_setting}
@@ -15,8 +17,15 @@ member (suc (suc d)) is = absurd (
     let none : has (suc (suc d)) (0 ∷ 1 ∷ []) ≡ false = rw (first, second) refl in
     cc (none, is))
 
+-- the disk of each slot is a member
+in_slot : (slot d : ℕ) → HasInSlot small_start small_start.newest 0 slot d → has d (0 ∷ 1 ∷ []) ≡ true
+in_slot slot d h = elim (slot_disk slot d h) [
+  | inl first ↦ subst (λ z. has z (0 ∷ 1 ∷ []) ≡ true) (sym first) refl
+  | inr second ↦ subst (λ z. has z (0 ∷ 1 ∷ []) ≡ true) (sym second) refl
+]
+
 pub returns-clause-volume : goal.returns-clause-volume
-returns-clause-volume c = record { level = refl; rows = omega arith; started = refl; members = member; room = λ d target. omega arith }
+returns-clause-volume c = record { level = refl; two = refl; rows = omega arith; started = refl; members = member; each_slot = in_slot; room = λ d target. omega arith }
 
 pub returns-clause-renews : goal.returns-clause-renews
 returns-clause-renews c m g y old fits = record {
@@ -34,3 +43,6 @@ returns-clause-renews c m g y old fits = record {
 
 pub returns-clause-renewable : goal.returns-clause-renewable
 returns-clause-renewable c = record { alone = refl; short = refl; container = refl; serial = 65 ∷ []; sectors = 4096; whole = refl }
+
+pub returns-clause-alone : goal.returns-clause-alone
+returns-clause-alone c v is = grind (arith, nat_tests, is)

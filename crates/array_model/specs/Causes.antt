@@ -1,0 +1,180 @@
+-- Each entry and each answer of a journal has its cause in the script, in the opening and in the entries before it.
+-- Source: the array states of the kernel's md.rst and mdmon-design.txt (read-auto, clean, write-pending, active,
+-- active-idle; the monitor's metadata writes); what is a cause of which entry is this project's own.
+use Rattle.std.specs.Prelude.{◌≡◌, ℕ, ◌+◌, ◌<◌, ◌≤◌, ◌==◌, ◌&&◌, nat_lt, Bool, true, false, List, [], ◌∷◌, Option, Some, None, if◌then◌else◌, ⊤, ◌⊎◌}
+use Rattle.array_model.specs.declared.script.Op.{Op}
+use Rattle.array_model.specs.declared.script.OpKind.{OpKind}
+use Rattle.array_model.specs.declared.script.OpKind.TheVariants.{Write, Read, Whole}
+use Rattle.array_model.specs.declared.journal.Entry.{Entry}
+use Rattle.array_model.specs.declared.journal.Event.{Event}
+use Rattle.array_model.specs.declared.journal.Event.TheVariants.{Begin, End, Ready, Submit, Pending, Active, Ack, Idle, Clean}
+use Rattle.array_model.specs.declared.journal.Answer.{Answer}
+use Rattle.array_model.specs.declared.journal.Answer.TheVariants.{Done, Value, Past, Failed, NoSpare}
+use Rattle.array_model.specs.Script.{Target, kind_at, write_at}
+use Rattle.array_model.specs.Events.{AtEach, has, is_submit, is_ack_of, is_any_fault}
+use Rattle.array_model.specs.Start.{Start}
+
+-- ROUNDS
+
+abbrev pub note_at : ℕ → Event → ℕ
+note_at note (Begin g) = g
+note_at note _ = note
+
+abbrev pub note_from : ℕ → List Entry → ℕ
+note_from note [] = note
+note_from note (e ∷ es) = note_from (note_at note e.event) es
+
+-- the generation of the round begun last; before the first, the newest's at opening
+abbrev pub note_of : Start → List Entry → ℕ
+note_of start journal = note_from (start.words.generation start.newest.anchor) journal
+
+-- where the rounds are: none has begun, the last that began has this generation and goes on, or it has ended
+pub data Course : Type 0 where
+  NoRound : Course
+  GoesOn : (g : ℕ) → Course
+  Over : Course
+
+abbrev pub course_at : Course → Event → Course
+course_at course (Begin g) = GoesOn g
+course_at course (End g) = Over
+course_at course _ = course
+
+abbrev pub course_from : Course → List Entry → Course
+course_from course [] = course
+course_from course (e ∷ es) = course_from (course_at course e.event) es
+
+-- by the last of the entries begin and end
+abbrev pub course_of : List Entry → Course
+course_of journal = course_from NoRound journal
+
+-- no round goes on
+abbrev pub IsBetween : Course → Type 0
+IsBetween NoRound = ⊤
+IsBetween (GoesOn g) = ⊥
+IsBetween Over = ⊤
+
+-- ARRAY STATES
+
+-- the state of a volume that a journal tells; closed before its ready
+pub data Told : Type 0 where
+  ToldClosed : Told
+  ToldReadAuto : Told
+  ToldClean : Told
+  ToldPending : Told
+  ToldActive : Told
+  ToldIdle : Told
+
+abbrev pub size_of : Start → ℕ → ℕ
+size_of start v = (start.words.shape start.newest v).size
+
+abbrev pub is_inside : Start → ℕ → Option Target → Bool
+is_inside start v None = false
+is_inside start v (Some t) = (t.volume == v) && nat_lt t.sector (size_of start v)
+
+-- op i is a write to a sector of the volume
+abbrev pub is_write_inside : Start → List Op → ℕ → ℕ → Bool
+is_write_inside start ops v i = is_inside start v (write_at ops i)
+
+-- a write that is asked for makes an idle volume active, without an entry
+abbrev pub woken : Told → Told
+woken ToldClosed = ToldClosed
+woken ToldReadAuto = ToldReadAuto
+woken ToldClean = ToldClean
+woken ToldPending = ToldPending
+woken ToldActive = ToldActive
+woken ToldIdle = ToldActive
+
+abbrev pub told_at : Start → List Op → ℕ → Told → Event → Told
+told_at start ops v told (Ready w) = if w.0 == v then ToldReadAuto else told
+told_at start ops v told (Pending w) = if w.0 == v then ToldPending else told
+told_at start ops v told (Active w) = if w.0 == v then ToldActive else told
+told_at start ops v told (Idle w) = if w.0 == v then ToldIdle else told
+told_at start ops v told (Clean w) = if w.0 == v then ToldClean else told
+told_at start ops v told (Submit i) = if is_write_inside start ops v i then woken told else told
+told_at start ops v told _ = told
+
+abbrev pub told_from : Start → List Op → ℕ → Told → List Entry → Told
+told_from start ops v told [] = told
+told_from start ops v told (e ∷ es) = told_from start ops v (told_at start ops v told e.event) es
+
+abbrev pub told_of : Start → List Op → List Entry → ℕ → Told
+told_of start ops journal v = told_from start ops v ToldClosed journal
+
+-- the volume was started, and the journal tells this state of it
+pub record IsTold (start : Start) (ops : List Op) (journal : List Entry) (v : ℕ) (told : Told) : Type 0 where
+  pub started : start.is_started v ≡ true
+  pub state : told_of start ops journal v ≡ told
+
+-- the volume was started, and is ready
+pub record IsReady (start : Start) (ops : List Op) (journal : List Entry) (v : ℕ) : Type 0 where
+  pub started : start.is_started v ≡ true
+  pub ready : told_of start ops journal v ≡ ToldClosed → ⊥
+
+-- an operation is asked for where its volume is ready
+abbrev pub IsAskedFor : Start → List Op → List Entry → Option OpKind → Type 0
+IsAskedFor start ops front None = ⊥
+IsAskedFor start ops front (Some (Write v s value)) = IsReady start ops front v.0
+IsAskedFor start ops front (Some (Read v s)) = IsReady start ops front v.0
+IsAskedFor start ops front (Some (Whole v)) = IsReady start ops front v.0
+
+-- each write to the volume that was submitted was answered
+abbrev pub AreAnswered : Start → List Op → List Entry → ℕ → Type 0
+AreAnswered start ops journal v =
+    (i : ℕ) → is_write_inside start ops v i ≡ true → has (is_submit i) journal ≡ true → has (is_ack_of i) journal ≡ true
+
+-- ANSWERS
+
+-- only an operation on a sector of the volume fails, and only after a fault
+pub record MayFail (start : Start) (front : List Entry) (v s : ℕ) : Type 0 where
+  pub inside : s < size_of start v
+  pub fault : has is_any_fault front ≡ true
+
+abbrev pub WriteAnswer : Start → List Entry → (v s : ℕ) → Answer → Type 0
+WriteAnswer start front v s Done = s < size_of start v
+WriteAnswer start front v s (Value x) = ⊥
+WriteAnswer start front v s Past = size_of start v ≤ s
+WriteAnswer start front v s Failed = MayFail start front v s
+WriteAnswer start front v s NoSpare = ⊥
+
+abbrev pub ReadAnswer : Start → List Entry → (v s : ℕ) → Answer → Type 0
+ReadAnswer start front v s Done = ⊥
+ReadAnswer start front v s (Value x) = s < size_of start v
+ReadAnswer start front v s Past = size_of start v ≤ s
+ReadAnswer start front v s Failed = MayFail start front v s
+ReadAnswer start front v s NoSpare = ⊥
+
+abbrev pub WholeAnswer : Answer → Type 0
+WholeAnswer Done = ⊤
+WholeAnswer (Value x) = ⊥
+WholeAnswer Past = ⊥
+WholeAnswer Failed = ⊥
+WholeAnswer NoSpare = ⊤
+
+-- what an operation of this kind may be answered; when a volume is whole the answer law says
+abbrev pub IsAnswerTo : Start → List Entry → Option OpKind → Answer → Type 0
+IsAnswerTo start front None answer = ⊥
+IsAnswerTo start front (Some (Write v s value)) answer = WriteAnswer start front v.0 s answer
+IsAnswerTo start front (Some (Read v s)) answer = ReadAnswer start front v.0 s answer
+IsAnswerTo start front (Some (Whole v)) answer = WholeAnswer answer
+
+-- THE LAW
+
+-- The cause of an entry behind a front of the journal. A round begins where none goes on, with the next generation, and
+-- the round that goes on ends. Ready comes once a round has ended, the states follow one another, and operations are
+-- submitted once their volume is ready; the form of the journal and the order of answers say more of them. Entries of
+-- failures, passes, updates and takeovers have no cause today: a failed call ends the run, and there are none of the
+-- others.
+abbrev pub IsCaused : Start → List Op → List Entry → Event → Type 0
+IsCaused start ops front (Begin g) = IsBetween (course_of front) × (g ≡ note_of start front + 1)
+IsCaused start ops front (End g) = course_of front ≡ GoesOn g
+IsCaused start ops front (Ready v) = IsTold start ops front v.0 ToldClosed × (course_of front ≡ Over)
+IsCaused start ops front (Pending v) = IsTold start ops front v.0 ToldReadAuto ⊎ IsTold start ops front v.0 ToldClean
+IsCaused start ops front (Active v) = IsTold start ops front v.0 ToldPending
+IsCaused start ops front (Idle v) = IsTold start ops front v.0 ToldActive × AreAnswered start ops front v.0
+IsCaused start ops front (Clean v) = IsTold start ops front v.0 ToldIdle
+IsCaused start ops front (Submit i) = IsAskedFor start ops front (kind_at ops i)
+IsCaused start ops front (Ack i answer) = IsAnswerTo start front (kind_at ops i) answer
+IsCaused start ops front _ = ⊥
+
+abbrev pub AreCaused : Start → List Op → List Entry → Type 0
+AreCaused start ops journal = AtEach (λ front e. IsCaused start ops front e.event) journal
