@@ -12,7 +12,7 @@ use Rattle.stage.specs.declared.ends.Cycle.TheVariants.{Rested}
 use Rattle.stage.specs.declared.turned.Turned.{Turned}
 use Rattle.stage.specs.declared.turned.Turned.TheVariants.{Moved, Idle, JournalFull, Member}
 use Rattle.stage.specs.Stages.{Seen, Turns, Acted, Answered, setting_of}
-use Rattle.stage.specs.Drives.{Follows, TurnEnds, Spends, ClientsStill, Cycled, AllStill, spent, budget}
+use Rattle.stage.specs.Drives.{Follows, IsFullWithWork, TurnEnds, Spends, ClientsStill, Cycled, AllStill, spent, budget}
 use Rattle.stage.proofs.Staged.{not_full, length-stamped}
 
 follows_same : {B : Type 0} (a b : Seen B) → b ≡ a → Follows a b
@@ -55,10 +55,14 @@ answered_follows {B} a b act (Member d) answered = by answered.1
     by (inl same) = follows_same a b same
     by (inr acted) = acted_follows a b act acted
 
+-- the journal has no room for a turn that there is to take
+pub full_with_work : {B : Type 0} (a b : Seen B) (act : Action) → Answered a b act JournalFull → IsFullWithWork b
+full_with_work {B} a b act answered = subst (λ (x : Seen B). IsFullWithWork x) (sym answered.0) (record { full = answered.3; live = answered.1; actor = act; waits = answered.2 })
+
 pub answered_ends : {B : Type 0} (a b : Seen B) (act : Action) (r : Turned) → Answered a b act r → TurnEnds b r
 answered_ends a b act Moved answered = tt
 answered_ends a b act Idle answered = tt
-answered_ends {B} a b act JournalFull answered = subst (λ (x : Seen B). TurnEnds x JournalFull) (sym answered.0) answered.3
+answered_ends a b act JournalFull answered = full_with_work a b act answered
 answered_ends a b act (Member d) answered = answered.0
 
 pub follows_on : {B : Type 0} (a b c : Seen B) → Follows a b → Follows b c → Follows a c

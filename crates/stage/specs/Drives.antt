@@ -1,8 +1,8 @@
 -- How many turns in a row end, and what they spend. Source: this project's own.
-use Rattle.std.specs.Prelude.{◌≡◌, ℕ, ◌+◌, ◌^◌, ◌<◌, ◌≤◌, true, length, Some, None, ⊤}
+use Rattle.std.specs.Prelude.{◌≡◌, ℕ, ◌+◌, ◌^◌, ◌<◌, ◌≤◌, true, false, length, Some, None, ⊤}
 use Rattle.imsm_base.specs.declared.units.Sector.{Sector}
 use Rattle.stage_machine.specs.Rounds.{Ended}
-use Rattle.stage_machine.specs.Machine.{Monitors, Asks, Quiets}
+use Rattle.stage_machine.specs.Machine.{Action, Monitors, Asks, Quiets}
 use Rattle.control_state.specs.Still.{is_still}
 use Rattle.stage.specs.declared.ends.DriveEnd.{DriveEnd}
 use Rattle.stage.specs.declared.ends.DriveEnd.TheVariants.{Over, Full, Member}
@@ -42,23 +42,30 @@ pub record AllStill {B : Type 0} (a : Seen B) : Type 0 where
   pub clients : ClientsStill a 16
   pub quiet : QuietStill a
 
+-- the journal is full, or as many calls were made as there may be, and an actor has a turn to take
+pub record IsFullWithWork {B : Type 0} (a : Seen B) : Type 0 where
+  pub full : is_full a ≡ true
+  pub live : a.control.failed ≡ None
+  pub actor : Action
+  pub waits : is_still (setting_of a.given) a.control actor ≡ false
+
 -- the cause of an early end
 abbrev pub EndsBy : {B : Type 0} → Seen B → DriveEnd → Type 0
 EndsBy {B} a Over = ⊤
-EndsBy {B} a Full = is_full a ≡ true
+EndsBy {B} a Full = IsFullWithWork a
 EndsBy {B} a (Member d) = a.control.failed ≡ Some d.0
 
 -- the cause of a turn's answer that ends a drive
 abbrev pub TurnEnds : {B : Type 0} → Seen B → Turned → Type 0
 TurnEnds {B} a Moved = ⊤
 TurnEnds {B} a Idle = ⊤
-TurnEnds {B} a JournalFull = is_full a ≡ true
+TurnEnds {B} a JournalFull = IsFullWithWork a
 TurnEnds {B} a (Failed d) = a.control.failed ≡ Some d.0
 
 -- the causes of an early end, of a cycle
 abbrev pub CycleEnds : {B : Type 0} → Seen B → DriveEnd → Type 0
 CycleEnds {B} a Over = ⊥
-CycleEnds {B} a Full = is_full a ≡ true
+CycleEnds {B} a Full = IsFullWithWork a
 CycleEnds {B} a (Member d) = a.control.failed ≡ Some d.0
 
 -- something was done, within the budget

@@ -9,6 +9,7 @@ use Rattle.array_model.specs.Start.{Start}
 use Rattle.block_words.specs.Reading.{block_words}
 use Rattle.rest_law.specs.Rest.{is_whole}
 use Rattle.first_opening.specs.Opened.{Opened, IsOpening, newest_of, targets_of, members_of, setting_of, is_first_op}
+use Rattle.first_opening.specs.Copies.{first_copy, differs}
 use Rattle.stage.specs.Stages.{Given}
 
 -- how volume 0 lies on its disks
@@ -40,3 +41,7 @@ AsksRows ops = AllByRecursion (λ op. is_whole op.kind ≡ false) ops
 -- how a run starts, with the content that the volumes held and the sectors that were unsure
 abbrev pub start_on : Opened → (content : ℕ → ℕ → Sector) → (unsure : ℕ → ℕ → Bool) → Start
 start_on o content unsure = (setting_of o (record { ops = []; asks = [] }) content unsure).start
+
+-- the same with the content that the first disk held; unsure are the sectors of which another disk held something else
+abbrev pub start_of : Opened → Start
+start_of o = start_on o (first_copy o) (differs o)

@@ -1,13 +1,17 @@
 //! The laws of a run, promised of the stage that makes it: over every bank, for every list of turns.
 #![tactic(auto)]
 
-ghost use Rattle.std.specs.Prelude.{◌≡◌, ℕ, List, Some};
+ghost use Rattle.std.specs.Prelude.{◌≡◌, ℕ, List, Some, false};
 ghost use Rattle.device_log.specs.Log.{Call};
 ghost use Rattle.array_model.specs.Script.{Asked};
+ghost use Rattle.array_model.specs.FailureLaw.{EndsAtFailure};
+ghost use Rattle.array_model.specs.Rests.{HasComeToRest};
+ghost use Rattle.stage_machine.specs.Machine.{Action};
+ghost use Rattle.control_state.specs.Still.{is_still};
 ghost use Rattle.first_opening.specs.Opened.{Opened};
-ghost use Rattle.first_opening.specs.Copies.{first_copy, differs};
+ghost use Rattle.stage.specs.Stages.{setting_of};
 ghost use Rattle.stage.specs.Drives.{AllStill};
-ghost use Rattle.stage_law.specs.Runs.{IsRunOn, AsksRows, start_on};
+ghost use Rattle.stage_law.specs.Runs.{IsRunOn, AsksRows, start_of};
 ghost use Rattle.stage_law.specs.Laws.{KeepsForm, KeepsLaws, IsSince, AllAnswered, IsLeftClean};
 
 use array_model::Journal;
@@ -15,17 +19,27 @@ use member_bank::Bank;
 use stage::Stage;
 
 /// Closes a stage, after whatever turns. Where its bank held a container of the first form, the journal has the form of
-/// one and each client's answers come in order; where the bank tells its log too, its calls since the opening keep the
-/// laws of a run. Where no actor has anything left to do, each operation was answered and the volume is left clean.
+/// one, each entry and each answer has its cause, and each client's answers come in order; where the bank tells its log
+/// too, its calls since the opening keep the laws of a run, and a call that failed is the last of them. Where no actor
+/// has anything left to do, each operation was answered, the volume is left clean, and the journal tells that the run
+/// has come to rest; while an actor has a turn to take, it doesn't.
 pub fn finish<B: Bank>(stage: Stage<B>) -> (B, Journal)
     ensures parts { (result.0 ≡ stage.bank) × (result.1.entries ≡ stage.journal) }
     ensures form { (o : Opened) (asked : Asked) → IsRunOn o asked stage.given
-        → KeepsForm (start_on o (first_copy o) (differs o)) asked stage.calls stage.journal }
-    ensures laws { (o : Opened) (asked : Asked) → IsRunOn o asked stage.given → (all : List Call) → B.log stage.bank ≡ Some all
+        → KeepsForm (start_of o) asked stage.calls stage.journal }
+    ensures laws { (o : Opened) (asked : Asked) → IsRunOn o asked stage.given
+        → (all : List Call) → B.log stage.bank ≡ Some all
         → (log : List Call) × IsSince stage.calls all log × KeepsLaws o asked (B.opening stage.bank) log stage.journal
-        × (AsksRows asked.ops → AllStill stage → IsLeftClean (start_on o (first_copy o) (differs o)) log stage.journal) }
+        × (AsksRows asked.ops → AllStill stage → IsLeftClean (start_of o) log stage.journal) }
     ensures answered { (o : Opened) (asked : Asked) → IsRunOn o asked stage.given → AsksRows asked.ops → AllStill stage
         → AllAnswered asked.ops stage.journal }
+    ensures rests { (o : Opened) (asked : Asked) → IsRunOn o asked stage.given → AsksRows asked.ops → AllStill stage
+        → HasComeToRest (start_of o) asked.ops stage.journal }
+    ensures works { (o : Opened) (asked : Asked) → IsRunOn o asked stage.given → (actor : Action)
+        → is_still (setting_of stage.given) stage.control actor ≡ false
+        → HasComeToRest (start_of o) asked.ops stage.journal → ⊥ }
+    ensures ends { (all log : List Call) → B.log stage.bank ≡ Some all → IsSince stage.calls all log
+        → EndsAtFailure log stage.control.failed }
 {
     stage.close()
 }

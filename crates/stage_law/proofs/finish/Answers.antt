@@ -1,4 +1,5 @@
-use Rattle.stage_law.proofs.Laws.{keeps_form, keeps_laws, answers_all}
+use Rattle.stage_law.proofs.Laws.{keeps_form, keeps_laws, answers_all, comes_to_rest, works_on, ends_at}
+use Rattle.stage.specs.Stages.{setting_of}
 use Rattle.stage_law.proofs.finish.Goals as goal
 
 pub returns-clause-form : goal.returns-clause-form
@@ -17,3 +18,19 @@ returns-clause-answered g c o asked run rows still =
     let s = c.args.stage in
     answers_all o asked s.given run s.control s.calls s.journal (g.B.Bank.opening s.bank) (g.B.Bank.log s.bank) c.close.ensures.fits c.close.ensures.honest rows still.live
     (record { monitor = still.monitor; clients = still.clients; quiet = still.quiet })
+
+pub returns-clause-ends : goal.returns-clause-ends
+returns-clause-ends g c all log known since =
+    let s = c.args.stage in
+    ends_at (setting_of s.given) s.control s.calls s.journal (g.B.Bank.log s.bank) c.close.ensures.ran all log known since
+
+pub returns-clause-rests : goal.returns-clause-rests
+returns-clause-rests g c o asked run rows still =
+    let s = c.args.stage in
+    comes_to_rest o asked s.given run s.control s.calls s.journal (g.B.Bank.opening s.bank) (g.B.Bank.log s.bank) c.close.ensures.fits c.close.ensures.honest rows still.live
+    (record { monitor = still.monitor; clients = still.clients; quiet = still.quiet })
+
+pub returns-clause-works : goal.returns-clause-works
+returns-clause-works g c o asked run actor waits told =
+    let s = c.args.stage in
+    works_on o asked s.given run s.control s.calls s.journal (g.B.Bank.opening s.bank) (g.B.Bank.log s.bank) c.close.ensures.fits c.close.ensures.honest actor waits told

@@ -28,3 +28,7 @@ loop-end-preserved g c =
       bank = bank_on g.B.Bank.serials g.B.Bank.sizes g.B.Bank.log g.B.Bank.faults_of a m n
           (bank_on g.B.Bank.serials g.B.Bank.sizes g.B.Bank.log g.B.Bank.faults_of a b m inv.bank c.cycle.ensures.bank) c.quiet.ensures.bank;
     }
+
+pub returns-in-Ends-clause-bank : goal.returns-in-Ends-clause-bank
+returns-in-Ends-clause-bank g c =
+    bank_on g.B.Bank.serials g.B.Bank.sizes g.B.Bank.log g.B.Bank.faults_of c.args.self.now c.loop-end.self c.cycle.new.self c.loop-end.invariant.bank c.cycle.ensures.bank
