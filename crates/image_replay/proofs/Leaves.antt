@@ -1,33 +1,43 @@
 -- What a stage leaves, that was opened on images that start.
-use Rattle.std.proofs.Common.{◌≡◌, ℕ, ◌+◌, true, List, ◌++◌, length, drop, Option, Some, None, refl, ap, sym, subst, ◌∙◌, arith, length-append, ◌||◌}
-use Rattle.std.specs.Prelude.{nat_lt, nat_le, ◌^◌}
-use Rattle.std.specs.List.{list_all}
+use Rattle.std.proofs.Common.{◌≡◌, ℕ, ◌+◌, ◌^◌, ◌<◌, ◌≤◌, ◌||◌, ◌⊎◌, inl, inr, Bool, true, false, List, [], ◌∷◌, ◌++◌, length, drop, Option, Some, None, refl, ap, sym, subst, ◌∙◌, arith, length-append}
+use Rattle.std.specs.Prelude.{IfSome, nat_lt, nat_le}
+use Rattle.std.specs.List.{AllByRecursion, list_all}
+use Rattle.std.proofs.lemmas.Bool.{leb-true, ltb-true}
 use Rattle.std.proofs.lemmas.List.{drop_at}
 use Rattle.imsm_base.specs.declared.units.Sector.{Sector}
-use Rattle.imsm_base.specs.declared.units.Serial.{Serial}
-use Rattle.device_log.specs.Log.{Call}
+use Rattle.device_log.specs.Log.{Call, What, Read, Write, Sync}
+use Rattle.member_bank.specs.Told.{Keeps}
 use Rattle.array_model.specs.Kept.{ScriptState, asked_by}
+use Rattle.array_model.specs.Rests.{HasComeToRest}
+use Rattle.array_model.specs.FailureLaw.{EndsAtFailure}
 use Rattle.member_bank.specs.Faults.{Rose}
+use Rattle.member_bank.specs.declared.Bank as bank_of
+use Rattle.stage_machine.specs.Machine.{Action}
+use Rattle.control_state.specs.Still.{is_still}
 use Rattle.control_state.specs.Book.{laid_at}
 use Rattle.control_state.specs.Seen.{numbers}
 use Rattle.stage_machine.specs.Machine.{Control}
 use Rattle.first_opening.specs.Opened.{Opened, targets_of, members_of, is_first_op}
-use Rattle.first_opening.specs.Copies.{first_copy, differs}
 use Rattle.stage.specs.declared.open.Opening.{Opening}
 use Rattle.stage.specs.declared.ends.DriveEnd.{DriveEnd}
 use Rattle.stage.specs.declared.ends.DriveEnd.TheVariants.{Over, Full, Member}
-use Rattle.stage.specs.Stages.{Given, Seen}
+use Rattle.stage.specs.Stages.{Given, Seen, setting_of}
+use Rattle.stage.specs.Runs.{IsReading}
+use Rattle.stage.specs.Runs as stage
 use Rattle.stage.specs.Opens.{given_by, IsOpened}
 use Rattle.stage.specs.Drives.{Follows, EndsBy, AllStill}
 use Rattle.stage.specs.Causes.{KeepsBank}
-use Rattle.stage_law.specs.Runs.{IsRunOn, AsksRows, given_on, shape_on, start_on}
-use Rattle.stage_law.specs.Laws.{KeepsForm, KeepsLaws, IsSince, AllAnswered, IsLeftClean}
+use Rattle.stage_law.specs.Runs.{IsRunOn, AsksRows, given_on, shape_on, start_of}
+use Rattle.stage_law.specs.Laws.{KeepsForm, KeepsLaws, IsSince, IsLeftClean}
+use Rattle.image_outside.specs.Outside.{IsRead, OnlyReads}
+use Rattle.image_outside.specs.Told.{bank_told}
 use Rattle.image_verdict.specs.declared.images.ImageRead.{ImageRead}
-use Rattle.image_verdict.specs.Images.{sizes_of_all}
-use Rattle.image_start.specs.Starts.{Starts, StandIn}
+use Rattle.image_verdict.specs.Images.{anchor_reads, sizes_of_all, HasReadAnchors, IsFoundOn, StandIn}
+use Rattle.image_verdict.proofs.Reading.{anchors_only_read, found_later}
+use Rattle.image_start.specs.Starts.{Starts}
 use Rattle.image_start.specs.Openings.{Opens, opened_on}
 use Rattle.image_start.proofs.Contents.{is-opening}
-use Rattle.image_replay.specs.Runs.{HasEnded, IsBehind, LeavesRun}
+use Rattle.image_replay.specs.Runs.{HasEnded, LeavesRun, failed_disk}
 
 -- two ways to cut a list with the same number behind
 same_back : {X : Type 0} (xs ys zs ws : List X) → xs ++ ys ≡ zs ++ ws → length ys ≡ length ws → ys ≡ ws
@@ -47,52 +57,122 @@ given_same o opened script sizes opens sized =
     ∙ ap (λ a. by (targets_of opened) (members_of opened) (shape_on opened).pba (shape_on opened).size a sizes) opens.newest
     ∙ ap (λ x. by (targets_of opened) (members_of opened) (shape_on opened).pba (shape_on opened).size opened.anchor x) sized
 
-module _ {B : Type 0} (serials : B → List Serial) (sizes : B → List ℕ) (opening : B → Option (List (List Sector))) (log : B → Option (List Call)) (faults : B → ℕ → ℕ)
-    (bank : B) (op : Opening) (images : List ImageRead) (script : ScriptState) (limit : ℕ) (contents : List (List Sector)) (first last : Seen B) (end : DriveEnd)
-    (starts : Starts images) (stands : StandIn images contents) (sized : sizes bank ≡ sizes_of_all images) (rows : AsksRows script.ops) (low : list_all is_first_op script.ops ≡ true)
-    (opens : Opens op (opened_on images contents)) (is : IsOpened first bank (given_by op script (sizes bank)) limit) (follows : Follows first last) (kept : KeepsBank serials sizes log faults first last)
+-- what is so of all that may be told is so where it is told
+if_told : {T : Type 0} (P : T → Type 0) (told : Option T) → ((t : T) → told ≡ Some t → P t) → IfSome told P
+if_told P None each = tt
+if_told P (Some t) each = each t refl
+
+one_of : (a b : Bool) → (a || b) ≡ true → (a ≡ true) ⊎ (b ≡ true)
+one_of true b is = inl refl
+one_of false b is = inr is
+
+-- the journal has too little room left, or too many calls were made
+pub no_room : (limit entries calls : ℕ) → (nat_lt limit (entries + 4) || nat_le (2 ^ 48) calls) ≡ true → (limit < entries + 4) ⊎ (2 ^ 48 ≤ calls)
+no_room limit entries calls full = at (one_of (nat_lt limit (entries + 4)) (nat_le (2 ^ 48) calls) full) where
+  at : (nat_lt limit (entries + 4) ≡ true) ⊎ (nat_le (2 ^ 48) calls ≡ true) → (limit < entries + 4) ⊎ (2 ^ 48 ≤ calls)
+  at (inl little) = inl (ltb-true limit (entries + 4) little)
+  at (inr many) = inr (leb-true (2 ^ 48) calls many)
+
+-- a count that rose did so from none too
+rose_at_all : (before now : ℕ) → Rose before now → Rose 0 now
+rose_at_all before now rose = omega (arith, rose)
+
+read_before : (log : Option (List Call)) (reads : List Call) → IfSome log (λ l. l ≡ reads) → (before : List Call) → log ≡ Some before → before ≡ reads
+read_before log reads made before is = subst (λ (l : Option (List Call)). IfSome l (λ x. x ≡ reads)) is made
+
+-- reads of anchors are reads
+only_reading : (calls : List Call) → OnlyReads calls → AllByRecursion (λ call. IsReading call.what) calls
+only_reading [] reads = tt
+only_reading (call ∷ calls) reads = (reading call.what reads.0, only_reading calls reads.1) where
+  reading : (what : What) → IsRead what → IsReading what
+  reading (Read place) is = tt
+  reading (Write place sectors stored) is = absurd is
+  reading Sync is = absurd is
+
+pub only_anchors : (log : Option (List Call)) (images : List ImageRead) → IfSome log (λ l. l ≡ anchor_reads images) → stage.OnlyReads log
+only_anchors log images made all known =
+    let same : all ≡ anchor_reads images = read_before log (anchor_reads images) made all known in
+    only_reading all (subst OnlyReads (sym same) (anchors_only_read images))
+
+module _ {B : Type 0} (ghosts : bank_of.Ghosts B) (bank : B) (op : Opening) (images : List ImageRead) (script : ScriptState) (limit : ℕ)
+    (first last : Seen B) (end : DriveEnd) (reads : HasReadAnchors (bank_told ghosts bank) images)
+    (is : IsOpened first bank (given_by op script (ghosts.sizes bank)) limit) (follows : Follows first last)
+    (kept : KeepsBank ghosts.serials ghosts.sizes ghosts.log ghosts.faults_of first last) (keeps : Keeps (ghosts.opening first.bank) (ghosts.opening last.bank))
     (ends : EndsBy last end) (over : end ≡ Over → AllStill last) where
-  abbrev pub o : Opened
-  o = opened_on images contents
-
-  pub run_on : IsRunOn o (asked_by script) last.given
-  run_on = record {
-    opens = is-opening images contents starts stands;
-    found = follows.given ∙ is.takes ∙ given_same op o script (sizes bank) opens sized;
-    asks = low;
-  }
-
-  live : first.control.failed ≡ None
-  live = ap (λ (c : Control). c.failed) is.begins
-
-  ended : (AllStill last → AllAnswered script.ops last.journal) → HasEnded (asked_by script) limit last.calls last.journal (λ d. Rose (faults bank d) (faults last.bank d)) end
-  ended answered = at end ends over
-    where
-      at : (e : DriveEnd) → EndsBy last e → (e ≡ Over → AllStill last) → HasEnded (asked_by script) limit last.calls last.journal (λ d. Rose (faults bank d) (faults last.bank d)) e
-      at Over by still = answered (still refl)
-      at Full by still = subst (λ room. (nat_lt room (length last.journal + 4) || nat_le (2 ^ 48) last.calls) ≡ true) (follows.room ∙ is.room) by
-      at (Member d) by still = subst (λ (b : B). Rose (faults b d.0) (faults last.bank d.0)) is.bank_kept (kept.cause live d.0 by)
-
   -- the run's calls stand behind those that were told when it began
-  behind : (all : List Call) → log last.bank ≡ Some all → (run : List Call) → IsSince last.calls all run → IsBehind (log bank) all run
+  behind : (all : List Call) → ghosts.log last.bank ≡ Some all → (run : List Call) → IsSince last.calls all run → all ≡ anchor_reads images ++ run
   behind all known run since =
       let grown = kept.grows.by all known in
       let count = grown.4 in
       let none = is.no_calls in
       let counted = since.counted in
       let same : run ≡ grown.1 = same_back since.before run grown.0 grown.1 (sym since.joined ∙ grown.3) (omega (arith, count, none, counted)) in
-      (grown.0, ap log (sym is.bank_kept) ∙ grown.2, grown.3 ∙ ap (λ xs. grown.0 ++ xs) (sym same))
+      let made : grown.0 ≡ anchor_reads images = read_before (ghosts.log bank) (anchor_reads images) reads grown.0 (ap ghosts.log (sym is.bank_kept) ∙ grown.2) in
+      grown.3 ∙ ap (λ xs. xs ++ grown.1) made ∙ ap (λ xs. anchor_reads images ++ xs) (sym same)
 
-  pub leaves : (KeepsForm (start_on o (first_copy o) (differs o)) (asked_by script) last.calls last.journal)
-      → ((all : List Call) → log last.bank ≡ Some all → (run : List Call) × IsSince last.calls all run × KeepsLaws o (asked_by script) (opening last.bank) run last.journal
-      × (AsksRows script.ops → AllStill last → IsLeftClean (start_on o (first_copy o) (differs o)) run last.journal))
-      → (AsksRows script.ops → AllStill last → AllAnswered script.ops last.journal)
-      → LeavesRun opening log o (asked_by script) limit (λ d. Rose (faults bank d) (faults last.bank d)) (log bank) last.bank last.journal end
-  leaves form laws answered = record {
-    calls = last.calls;
-    form = form;
-    cause = ended (answered rows);
-    told = λ all known.
-        let it = laws all known in
-        (it.0, behind all known it.0 it.1, it.1.counted, it.2, λ all_done. it.3 rows (over all_done));
-  }
+  -- the bank is still that of the images
+  pub found_still : IsFoundOn (bank_told ghosts bank) images → IsFoundOn (bank_told ghosts last.bank) images
+  found_still found =
+      let same : first.bank ≡ bank = is.bank_kept in
+      found_later (bank_told ghosts bank) (bank_told ghosts last.bank) images
+      (kept.serials_kept ∙ ap ghosts.serials same) (kept.sizes_kept ∙ ap ghosts.sizes same) (subst (λ (b : B). (d : ℕ) → ghosts.faults_of b d ≤ ghosts.faults_of last.bank d) same kept.later)
+      (subst (λ (b : B). Keeps (ghosts.opening b) (ghosts.opening last.bank)) same keeps)
+      (λ all known. let grown = kept.grows.by all known in (grown.0, ap ghosts.log (sym same) ∙ grown.2)) found
+
+  failed_on : last.control.failed ≡ failed_disk end
+  failed_on = at end ends over where
+    at : (e : DriveEnd) → EndsBy last e → (e ≡ Over → AllStill last) → last.control.failed ≡ failed_disk e
+    at Over by still = (still refl).live
+    at Full by still = by.live
+    at (Member d) by still = by
+
+  module _ (contents : List (List Sector)) (starts : Starts images) (stands : StandIn images contents) (sized : ghosts.sizes bank ≡ sizes_of_all images)
+      (rows : AsksRows script.ops) (low : list_all is_first_op script.ops ≡ true) (opens : Opens op (opened_on images contents)) where
+    abbrev pub o : Opened
+    o = opened_on images contents
+
+    pub run_on : IsRunOn o (asked_by script) last.given
+    run_on = record {
+      opens = is-opening images contents starts stands;
+      found = follows.given ∙ is.takes ∙ given_same op o script (ghosts.sizes bank) opens sized;
+      asks = low;
+    }
+
+    ended : (AllStill last → HasComeToRest (start_of o) script.ops last.journal)
+        → ((actor : Action) → is_still (setting_of last.given) last.control actor ≡ false → HasComeToRest (start_of o) script.ops last.journal → ⊥)
+        → HasEnded (start_of o) script.ops limit last.calls (ghosts.faults_of last.bank) last.journal end
+    ended rests works = at end ends over where
+      live : first.control.failed ≡ None
+      live = ap (λ (c : Control). c.failed) is.begins
+
+      at : (e : DriveEnd) → EndsBy last e → (e ≡ Over → AllStill last) → HasEnded (start_of o) script.ops limit last.calls (ghosts.faults_of last.bank) last.journal e
+      at Over by still = rests (still refl)
+      at Full by still = (
+        works by.actor by.waits,
+        no_room limit (length last.journal) last.calls
+            (subst (λ room. (nat_lt room (length last.journal + 4) || nat_le (2 ^ 48) last.calls) ≡ true) (follows.room ∙ is.room) by.full),
+      )
+      at (Member d) by still = rose_at_all (ghosts.faults_of first.bank d.0) (ghosts.faults_of last.bank d.0) (kept.cause live d.0 by)
+
+    pub leaves : KeepsForm (start_of o) (asked_by script) last.calls last.journal
+        → ((all : List Call) → ghosts.log last.bank ≡ Some all → (run : List Call) × IsSince last.calls all run × KeepsLaws o (asked_by script) (ghosts.opening last.bank) run last.journal
+        × (AsksRows script.ops → AllStill last → IsLeftClean (start_of o) run last.journal))
+        → (AsksRows script.ops → AllStill last → HasComeToRest (start_of o) script.ops last.journal)
+        → ((actor : Action) → is_still (setting_of last.given) last.control actor ≡ false → HasComeToRest (start_of o) script.ops last.journal → ⊥)
+        → ((all run : List Call) → ghosts.log last.bank ≡ Some all → IsSince last.calls all run → EndsAtFailure run last.control.failed)
+        → LeavesRun o (asked_by script) limit (anchor_reads images) (bank_told ghosts last.bank) last.journal end
+    leaves form laws rests works fails = record {
+      calls = last.calls;
+      form = form;
+      cause = ended (rests rows) works;
+      told = if_told _ (ghosts.log last.bank) (λ all known.
+          let it = laws all known in
+          record {
+            run = it.0;
+            joined = behind all known it.0 it.1;
+            counted = it.1.counted;
+            laws = it.2;
+            failed = subst (EndsAtFailure it.0) failed_on (fails all it.0 known it.1);
+            clean = λ all_done. it.3 rows (over all_done);
+          });
+    }

@@ -2,4 +2,3 @@ pub mod Leaves
 pub mod Scripts
 pub mod Held
 pub mod Printed
-pub mod Replayed

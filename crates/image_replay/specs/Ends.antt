@@ -13,9 +13,6 @@ end_status Over = 0
 end_status Full = 8
 end_status (Member d) = 13
 
-abbrev pub IsRan : ℕ → Type 0
-IsRan status = (status ≡ 0) ⊎ (status ≡ 8) ⊎ (status ≡ 13)
-
 -- no run was made: the images wait for another, or aren't built yet
 abbrev pub IsUnstarted : ℕ → Type 0
 IsUnstarted status = (status ≡ 2) ⊎ (status ≡ 14)

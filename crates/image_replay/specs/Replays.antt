@@ -1,75 +1,63 @@
 -- What a replay says of a bank's disks and leaves of them. Source: this project's own.
-use Rattle.std.specs.Prelude.{◌≡◌, ℕ, ◌⊎◌, true, false, List, Option, Some, IfSome}
-use Rattle.imsm_base.specs.declared.units.Sector.{Sector}
-use Rattle.imsm_base.specs.declared.units.Serial.{Serial}
-use Rattle.device_log.specs.Log.{Call}
+use Rattle.std.specs.Prelude.{◌≡◌, ℕ, ◌⊎◌, true, false, List, IfSome}
+use Rattle.std.specs.List.{AllByRecursion}
 use Rattle.array_model.specs.declared.journal.Entry.{Entry}
+use Rattle.array_model.specs.Fits.{FitsEntry}
 use Rattle.array_model.specs.Kept.{ScriptState, asked_by}
-use Rattle.member_bank.specs.Faults.{Rose}
 use Rattle.first_opening.specs.Opened.{Opened, IsOpening}
 use Rattle.stage.specs.declared.ends.DriveEnd.{DriveEnd}
-use Rattle.image_outside.specs.Outside.{Adds, OnlyReads}
+use Rattle.image_outside.specs.Told.{BankTold}
 use Rattle.image_verdict.specs.declared.images.ImageRead.{ImageRead}
-use Rattle.image_verdict.specs.Images.{images_told}
+use Rattle.image_verdict.specs.Images.{anchor_reads, HasReadAnchors, IsFoundOn}
 use Rattle.image_verdict.specs.Reports.{bytes_of_all}
 use Rattle.image_verdict.specs.Endings.{Reports}
-use Rattle.image_start.specs.Starts.{IsStarted, StandIn}
-use Rattle.image_start.specs.Openings.{opened_on}
+use Rattle.image_start.specs.Starts.{IsStarted}
+use Rattle.image_start.specs.Openings.{first_anchor}
 use Rattle.image_replay.specs.Ends.{IsUnstarted, asks_second, end_status}
 use Rattle.image_replay.specs.Lines.{absent_volume_line, run_text}
 use Rattle.image_replay.specs.Runs.{LeavesRun}
 
--- The disks of a bank, which hold a container. Where the bank tells both what it held and its log, the contents are those
--- that it told.
-pub record IsHeldBy (serials : List Serial) (sizes : List ℕ) (contents : Option (List (List Sector))) (log : Option (List Call)) (o : Opened) : Type 0 where
-  pub opens : IsOpening o
-  pub named : o.serials ≡ bytes_of_all serials
-  pub sized : o.sizes ≡ sizes
-  pub held : (told : List (List Sector)) (all : List Call) → contents ≡ Some told → log ≡ Some all → o.contents ≡ told
-
--- What a run on images leaves: its journal, its end, and what was written of it. Where the anchors stand as they were read,
--- it is a run over these disks.
-pub record Plays {B : Type 0} (serials : B → List Serial) (opening : B → Option (List (List Sector))) (log : B → Option (List Call)) (faults : B → ℕ → ℕ)
-    (images : List ImageRead) (script : ScriptState) (limit : ℕ) (old new : Option (List ℕ)) (status : ℕ) (before after : B) : Type 0 where
-  pub journal : List Entry
-  pub ended : DriveEnd
-  pub run : (contents : List (List Sector)) → StandIn images contents
-      → LeavesRun opening log (opened_on images contents) (asked_by script) limit (λ d. Rose (faults before d) (faults after d)) (log before) after journal ended
-  pub status_is : status ≡ end_status ended
-  pub lines : Adds old new (run_text (serials before) journal ended)
-
--- A run was made, and its journal is what was written, with the line that says how it ended. Its calls stand in the log
--- behind those that found the container, which were reads.
-pub record Replays {B : Type 0} (serials : B → List Serial) (sizes : B → List ℕ) (opening : B → Option (List (List Sector))) (log : B → Option (List Call)) (faults : B → ℕ → ℕ)
-    (script : ScriptState) (limit : ℕ) (old new : Option (List ℕ)) (status : ℕ) (before after : B) : Type 0 where
-  pub o : Opened
-  pub disks : IsHeldBy (serials before) (sizes before) (opening after) (log after) o
-  pub began : Option (List Call)
-  pub found : (all : List Call) → began ≡ Some all → OnlyReads all
-  pub journal : List Entry
-  pub ended : DriveEnd
-  pub run : LeavesRun opening log o (asked_by script) limit (λ d. Rose (faults before d) (faults after d)) began after journal ended
-  pub status_is : status ≡ end_status ended
-  pub lines : Adds old new (run_text (serials before) journal ended)
-
--- No run was made, as the images are not those of a volume that starts: the report on them was written.
-pub record LeavesReport (serials : List Serial) (sizes : List ℕ) (opening : Option (List (List Sector))) (log : Option (List Call)) (old new : Option (List ℕ)) (status : ℕ) : Type 0 where
+-- No run was made, as the images are not those of a volume that starts: the lines are the report on them.
+pub record LeavesReport (bank : BankTold) (lines : List ℕ) (status : ℕ) : Type 0 where
   pub unstarted : IsUnstarted status
-  pub reads : IfSome log OnlyReads
-  pub reports : Reports serials sizes opening log old new status
+  pub reports : Reports bank lines status
 
 -- No run was made, as an operation names the second volume, of images of which the first starts.
-pub record LeavesAbsent (serials : List Serial) (sizes : List ℕ) (opening : Option (List (List Sector))) (log : Option (List Call)) (script : ScriptState) (old new : Option (List ℕ)) (status : ℕ) : Type 0 where
+pub record LeavesAbsent (script : ScriptState) (bank : BankTold) (lines : List ℕ) (status : ℕ) : Type 0 where
   pub asks : asks_second script.ops ≡ true
-  pub started : IfSome opening (λ o. IfSome log (λ l. IsStarted (images_told serials sizes o l)))
-  pub reads : IfSome log OnlyReads
+  pub images : List ImageRead
+  pub found : IsFoundOn bank images
+  pub reads : HasReadAnchors bank images
+  pub started : IsStarted images
+  pub lines_are : lines ≡ absent_volume_line
   pub status_is : status ≡ 3
-  pub line : Adds old new absent_volume_line
+
+-- The disks of a bank, which hold a container, whose newest block was read of the first image. Where the bank tells
+-- both what it held and its log, the contents are those that it told.
+pub record IsHeldBy (bank : BankTold) (images : List ImageRead) (o : Opened) : Type 0 where
+  pub opens : IsOpening o
+  pub named : o.serials ≡ bytes_of_all bank.serials
+  pub sized : o.sizes ≡ bank.sizes
+  pub newest : o.anchor ≡ first_anchor images
+  pub held : IfSome bank.opening (λ contents. IfSome bank.log (λ log. o.contents ≡ contents))
+
+-- A run was made on the disks of images that start, behind the reads that found them. The lines are the text of its
+-- journal, and one that says how it ended; the entries are such that no other journal has this text.
+pub record Replays (script : ScriptState) (limit : ℕ) (bank : BankTold) (lines : List ℕ) (status : ℕ) : Type 0 where
+  pub asks : asks_second script.ops ≡ false
+  pub images : List ImageRead
+  pub found : IsFoundOn bank images
+  pub started : IsStarted images
+  pub o : Opened
+  pub held : IsHeldBy bank images o
+  pub journal : List Entry
+  pub ended : DriveEnd
+  pub run : LeavesRun o (asked_by script) limit (anchor_reads images) bank journal ended
+  pub fits : AllByRecursion FitsEntry journal
+  pub lines_are : lines ≡ run_text bank.serials journal ended
+  pub status_is : status ≡ end_status ended
 
 -- what a replay leaves of a bank: a report on its images, that a volume isn't there, or a run
-abbrev pub ReplaysBy : {B : Type 0} (serials : B → List Serial) (sizes : B → List ℕ) (opening : B → Option (List (List Sector))) (log : B → Option (List Call)) (faults : B → ℕ → ℕ)
-    (script : ScriptState) (limit : ℕ) (old new : Option (List ℕ)) (status : ℕ) (before after : B) → Type 0
-ReplaysBy serials sizes opening log faults script limit old new status before after =
-    LeavesReport (serials before) (sizes before) (opening after) (log after) old new status
-    ⊎ LeavesAbsent (serials before) (sizes before) (opening after) (log after) script old new status
-    ⊎ ((asks_second script.ops ≡ false) × Replays serials sizes opening log faults script limit old new status before after)
+abbrev pub ReplaysBy : ScriptState → (limit : ℕ) → BankTold → (lines : List ℕ) → (status : ℕ) → Type 0
+ReplaysBy script limit bank lines status =
+    LeavesReport bank lines status ⊎ LeavesAbsent script bank lines status ⊎ Replays script limit bank lines status

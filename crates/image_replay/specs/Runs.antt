@@ -1,34 +1,51 @@
 -- What a run leaves, of a script on a bank whose disks held a container. Source: this project's own.
-use Rattle.std.specs.Prelude.{◌≡◌, ℕ, ◌+◌, ◌^◌, ◌||◌, nat_lt, nat_le, true, List, ◌++◌, length, Option, Some}
+use Rattle.std.specs.Prelude.{◌≡◌, ℕ, ◌+◌, ◌^◌, ◌<◌, ◌≤◌, ◌⊎◌, List, ◌++◌, length, Option, Some, None, IfSome}
 use Rattle.imsm_base.specs.declared.units.Sector.{Sector}
 use Rattle.device_log.specs.Log.{Call}
+use Rattle.member_bank.specs.Faults.{Rose}
 use Rattle.array_model.specs.declared.journal.Entry.{Entry}
+use Rattle.array_model.specs.declared.script.Op.{Op}
 use Rattle.array_model.specs.Script.{Asked}
+use Rattle.array_model.specs.Start.{Start}
+use Rattle.array_model.specs.Rests.{HasComeToRest}
+use Rattle.array_model.specs.FailureLaw.{EndsAtFailure}
 use Rattle.first_opening.specs.Opened.{Opened}
-use Rattle.first_opening.specs.Copies.{first_copy, differs}
 use Rattle.stage.specs.declared.ends.DriveEnd.{DriveEnd}
 use Rattle.stage.specs.declared.ends.DriveEnd.TheVariants.{Over, Full, Member}
-use Rattle.stage_law.specs.Runs.{start_on}
-use Rattle.stage_law.specs.Laws.{KeepsForm, KeepsLaws, AllAnswered, IsLeftClean}
+use Rattle.stage_law.specs.Runs.{start_of}
+use Rattle.stage_law.specs.Laws.{KeepsForm, KeepsLaws, IsLeftClean}
+use Rattle.image_outside.specs.Told.{BankTold}
 
--- the cause of a run's end: each operation was answered; the journal has fewer than four entries left, or 2 ^ 48 calls
--- were made; or the disk's count of faults rose
-abbrev pub HasEnded : Asked → (limit calls : ℕ) → List Entry → (rose : ℕ → Type 0) → DriveEnd → Type 0
-HasEnded asked limit calls journal rose Over = AllAnswered asked.ops journal
-HasEnded asked limit calls journal rose Full = (nat_lt limit (length journal + 4) || nat_le (2 ^ 48) calls) ≡ true
-HasEnded asked limit calls journal rose (Member d) = rose d.0
+-- The cause of a run's end. It is over where it has come to rest, with each operation answered. It is full where it has
+-- not, and the journal has fewer than four entries left, or 2 ^ 48 calls were made. Or a call on the disk failed.
+abbrev pub HasEnded : Start → List Op → (limit calls : ℕ) → (faults : ℕ → ℕ) → List Entry → DriveEnd → Type 0
+HasEnded start ops limit calls faults journal Over = HasComeToRest start ops journal
+HasEnded start ops limit calls faults journal Full =
+    (HasComeToRest start ops journal → ⊥) × ((limit < length journal + 4) ⊎ (2 ^ 48 ≤ calls))
+HasEnded start ops limit calls faults journal (Member d) = Rose 0 (faults d.0)
 
--- the calls of a log that is told, behind those that were told when the run began
-abbrev pub IsBehind : Option (List Call) → (all log : List Call) → Type 0
-IsBehind began all log = (before : List Call) × (began ≡ Some before) × (all ≡ before ++ log)
+-- the disk on which the last call of a run failed
+abbrev pub failed_disk : DriveEnd → Option ℕ
+failed_disk Over = None
+failed_disk Full = None
+failed_disk (Member d) = Some d.0
 
--- The journal of every run has the form of one. Where the bank tells its log, the run's calls keep the laws; and where all
--- is done, the volume is left clean.
-pub record LeavesRun {B : Type 0} (opening : B → Option (List (List Sector))) (log : B → Option (List Call)) (o : Opened) (asked : Asked) (limit : ℕ) (rose : ℕ → Type 0)
-    (began : Option (List Call)) (bank : B) (journal : List Entry) (ended : DriveEnd) : Type 0 where
+-- The calls of a run, in a log behind those made before, over disks that held these contents, where that is told. They
+-- keep the laws; none failed but the last, where that ended the run; and where it is over, the volume is left clean.
+pub record LeavesCalls (o : Opened) (asked : Asked) (contents : Option (List (List Sector))) (before log : List Call)
+    (calls : ℕ) (journal : List Entry) (ended : DriveEnd) : Type 0 where
+  pub run : List Call
+  pub joined : log ≡ before ++ run
+  pub counted : length run ≡ calls
+  pub laws : KeepsLaws o asked contents run journal
+  pub failed : EndsAtFailure run (failed_disk ended)
+  pub clean : ended ≡ Over → IsLeftClean (start_of o) run journal
+
+-- What a run leaves of a bank on which these calls were made before. Its journal has the form of one, and each entry
+-- has its cause. Where the bank tells its log, the run's calls stand behind those before, and keep the laws.
+pub record LeavesRun (o : Opened) (asked : Asked) (limit : ℕ) (before : List Call) (bank : BankTold)
+    (journal : List Entry) (ended : DriveEnd) : Type 0 where
   pub calls : ℕ
-  pub form : KeepsForm (start_on o (first_copy o) (differs o)) asked calls journal
-  pub cause : HasEnded asked limit calls journal rose ended
-  pub told : (all : List Call) → log bank ≡ Some all → (run : List Call) × IsBehind began all run × (length run ≡ calls)
-      × KeepsLaws o asked (opening bank) run journal
-      × (ended ≡ Over → IsLeftClean (start_on o (first_copy o) (differs o)) run journal)
+  pub form : KeepsForm (start_of o) asked calls journal
+  pub cause : HasEnded (start_of o) asked.ops limit calls bank.faults journal ended
+  pub told : IfSome bank.log (λ log. LeavesCalls o asked bank.opening before log calls journal ended)

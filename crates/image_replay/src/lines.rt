@@ -11,7 +11,8 @@ use member_bank::Failed;
 /// Writes the lines of a journal.
 pub(crate) fn write_journal<K: Sink>(sink: &mut K, entries: &[Entry]) -> Result<(), Failed>
     ensures ok { OnOk result (Adds (K.written sink.old) (K.written sink.new) (journal_text entries.now)) }
-    ensures err { OnErr result (BreaksOff (K.written sink.old) (K.written sink.new) (K.faults_of sink.old) (K.faults_of sink.new) (journal_text entries.now)) }
+    ensures err { OnErr result (BreaksOff (K.written sink.old) (K.written sink.new)
+        (K.faults_of sink.old) (K.faults_of sink.new) (journal_text entries.now)) }
     ensures later { K.faults_of sink.old ≤ K.faults_of sink.new }
 {
     for entry in entries {

@@ -1,18 +1,19 @@
 //! A replay: the images of a bank are read, the script is run on them, and the journal is printed.
-ghost use Rattle.std.specs.Prelude.{◌≡◌, ◌≤◌, ◌^◌, true, [], length, slice_index_or, IfSome, OnOk, OnErr};
+ghost use Rattle.std.specs.Prelude.{◌≡◌, ◌≤◌, ◌^◌, true, false, length, slice_index_or, OnOk, OnErr};
 ghost use Rattle.std.specs.List.{list_all};
 ghost use Rattle.first_opening.specs.Opened.{is_first_op};
-ghost use Rattle.stage.specs.Runs.{OnlyReads};
 ghost use Rattle.stage_law.specs.Runs.{AsksRows};
-ghost use Rattle.image_outside.specs.Outside.{Adds, BreaksOff, HasOnlyReads};
 ghost use Rattle.image_outside.specs.Endings.{Ends, EndsIfMemory, Prints};
+ghost use Rattle.image_outside.specs.Outside.{Adds, BreaksOff};
+ghost use Rattle.image_outside.specs.Shelves.{HasOnlyReads, IsUncalled};
+ghost use Rattle.image_outside.specs.Told.{bank_told};
+ghost use Rattle.image_outside.specs.Views.{sink_told};
 ghost use Rattle.run_script.specs.Within.{IsWithin};
-ghost use Rattle.member_bank.specs.Told.{Keeps};
-ghost use Rattle.image_verdict.specs.Images.{blank_serial, serials_of_all, sizes_of_all};
+ghost use Rattle.image_verdict.specs.Images.{blank_serial, serials_of_all, HasReadAnchors, IsFoundOn};
 ghost use Rattle.image_start.specs.Starts.{Starts};
 ghost use Rattle.image_replay.specs.Ends.{asks_second, end_status, volume_named};
 ghost use Rattle.image_replay.specs.Lines.{absent_volume_line, end_line, run_text};
-ghost use Rattle.image_replay.specs.Replays.{Plays, ReplaysBy};
+ghost use Rattle.image_replay.specs.Replays.{Replays, ReplaysBy};
 
 use crate::lines::write_journal;
 use crate::runs::{Finished, run};
@@ -65,8 +66,10 @@ fn serial_of(images: &[ImageRead], d: DiskNo) -> Serial
 
 /// Writes the line of a run's end.
 fn write_end<K: Sink>(sink: &mut K, end: DriveEnd, images: &[ImageRead]) -> Result<(), Failed>
-    ensures ok { OnOk result (Adds (K.written sink.old) (K.written sink.new) (end_line (serials_of_all images.now) end)) }
-    ensures err { OnErr result (BreaksOff (K.written sink.old) (K.written sink.new) (K.faults_of sink.old) (K.faults_of sink.new) (end_line (serials_of_all images.now) end)) }
+    ensures ok { OnOk result (Adds (K.written sink.old) (K.written sink.new)
+        (end_line (serials_of_all images.now) end)) }
+    ensures err { OnErr result (BreaksOff (K.written sink.old) (K.written sink.new)
+        (K.faults_of sink.old) (K.faults_of sink.new) (end_line (serials_of_all images.now) end)) }
 {
     match end {
         DriveEnd::Over => write_all(sink, b"done\n"),
@@ -82,8 +85,10 @@ fn write_run<K: Sink>(
     end: DriveEnd,
     images: &[ImageRead],
 ) -> Result<(), Failed>
-    ensures ok { OnOk result (Adds (K.written sink.old) (K.written sink.new) (run_text (serials_of_all images.now) entries.now end)) }
-    ensures err { OnErr result (BreaksOff (K.written sink.old) (K.written sink.new) (K.faults_of sink.old) (K.faults_of sink.new) (run_text (serials_of_all images.now) entries.now end)) }
+    ensures ok { OnOk result (Adds (K.written sink.old) (K.written sink.new)
+        (run_text (serials_of_all images.now) entries.now end)) }
+    ensures err { OnErr result (BreaksOff (K.written sink.old) (K.written sink.new)
+        (K.faults_of sink.old) (K.faults_of sink.new) (run_text (serials_of_all images.now) entries.now end)) }
 {
     write_journal(sink, entries)?;
     write_end(sink, end, images)
@@ -96,8 +101,8 @@ fn print_run<K: Sink>(
     end: DriveEnd,
     images: &[ImageRead],
 ) -> Status
-    ensures { Ends (K.written sink.old) (K.written sink.new) (K.faults_of sink.old) (K.faults_of sink.new)
-        (Prints (run_text (serials_of_all images.now) entries.now end) (end_status end) (K.written sink.old)) result.0 }
+    ensures { Ends (sink_told K.Sink sink.old) (sink_told K.Sink sink.new)
+        (Prints (run_text (serials_of_all images.now) entries.now end) (end_status end)) result.0 }
 {
     status_after(write_run(sink, entries, end, images), status_of(end))
 }
@@ -112,17 +117,16 @@ fn play<B: Bank, K: Sink>(
     sink: &mut K,
 ) -> (B, Status)
     requires starts { Starts images.now }
-    requires named { B.serials bank ≡ serials_of_all images.now }
-    requires sizes { B.sizes bank ≡ sizes_of_all images.now }
-    requires reads { OnlyReads (B.log bank) }
+    requires found { IsFoundOn (bank_told B.Bank bank) images.now }
+    requires reads { HasReadAnchors (bank_told B.Bank bank) images.now }
     requires limit { limit ≤ 2 ^ 20 }
+    requires asks { asks_second script.now.ops ≡ false }
     requires rows { AsksRows script.now.ops }
     requires first { list_all is_first_op script.now.ops ≡ true }
-    ensures ends { EndsIfMemory (K.written sink.old) (K.written sink.new) (K.faults_of sink.old) (K.faults_of sink.new)
-        (λ told status. Plays B.serials B.opening B.log B.faults_of images.now script.now limit (K.written sink.old) told status bank result.0) result.1.0 }
+    ensures ends { EndsIfMemory (sink_told K.Sink sink.old) (sink_told K.Sink sink.new)
+        (Replays script.now limit (bank_told B.Bank result.0)) result.1.0 }
     ensures unrun { result.1.0 ≡ 9 → result.0 ≡ bank }
-    ensures opening { Keeps (B.opening bank) (B.opening result.0) }
-    ensures same { (B.serials result.0 ≡ B.serials bank) × (B.sizes result.0 ≡ B.sizes bank) }
+    ensures same { B.serials result.0 ≡ B.serials bank }
 {
     match run(alloc, bank, images, script, limit) {
         Ok(Finished { bank, journal, end }) => {
@@ -145,13 +149,13 @@ pub fn replay<B: Bank, K: Sink>(
     limit: u32,
     sink: &mut K,
 ) -> (B, Status)
-    requires fresh { IfSome (B.log bank) (λ l. l ≡ []) }
+    requires fresh { IsUncalled (bank_told B.Bank bank) }
     requires some { 1 ≤ length (B.serials bank) }
     requires limit { limit ≤ 2 ^ 20 }
     requires script { IsWithin script.now }
-    ensures ends { EndsIfMemory (K.written sink.old) (K.written sink.new) (K.faults_of sink.old) (K.faults_of sink.new)
-        (λ told status. ReplaysBy B.serials B.sizes B.opening B.log B.faults_of script.now limit (K.written sink.old) told status bank result.0) result.1.0 }
-    ensures unrun { result.1.0 ≡ 9 → HasOnlyReads B.log result.0 }
+    ensures ends { EndsIfMemory (sink_told K.Sink sink.old) (sink_told K.Sink sink.new)
+        (ReplaysBy script.now limit (bank_told B.Bank result.0)) result.1.0 }
+    ensures unrun { result.1.0 ≡ 9 → HasOnlyReads (bank_told B.Bank result.0) }
     ensures serials { B.serials result.0 ≡ B.serials bank }
 {
     let images = match read_images(alloc, &mut bank) {

@@ -3,16 +3,15 @@ ghost use Rattle.std.specs.Prelude.{◌≡◌, ◌≤◌, ◌^◌, true, List, I
 ghost use Rattle.std.specs.List.{list_all};
 ghost use Rattle.imsm_base.specs.declared.units.Sector.{Sector};
 ghost use Rattle.member_bank.specs.Told.{Keeps};
-ghost use Rattle.member_bank.specs.Faults.{Rose};
 ghost use Rattle.array_model.specs.Kept.{asked_by};
 ghost use Rattle.first_opening.specs.Opened.{is_first_op};
-ghost use Rattle.stage.specs.Runs.{OnlyReads};
 ghost use Rattle.stage.specs.Drives.{Follows, EndsBy, AllStill};
 ghost use Rattle.stage.specs.Causes.{KeepsBank};
 ghost use Rattle.stage.specs.declared.ends.DriveEnd.TheVariants.{Over};
 ghost use Rattle.stage_law.specs.Runs.{AsksRows};
-ghost use Rattle.image_start.specs.Starts.{Starts, StandIn};
-ghost use Rattle.image_verdict.specs.Images.{sizes_of_all};
+ghost use Rattle.image_outside.specs.Told.{bank_told};
+ghost use Rattle.image_verdict.specs.Images.{anchor_reads, HasReadAnchors, IsFoundOn, StandIn};
+ghost use Rattle.image_start.specs.Starts.{Starts};
 ghost use Rattle.image_start.specs.Openings.{opened_on};
 ghost use Rattle.image_replay.specs.Runs.{LeavesRun};
 
@@ -55,16 +54,16 @@ pub fn run<B: Bank>(
     limit: u32,
 ) -> Result<Finished<B>, (B, StageFault)>
     requires starts { Starts images.now }
-    requires sizes { B.sizes bank ≡ sizes_of_all images.now }
-    requires reads { OnlyReads (B.log bank) }
+    requires found { IsFoundOn (bank_told B.Bank bank) images.now }
+    requires reads { HasReadAnchors (bank_told B.Bank bank) images.now }
     requires limit { limit ≤ 2 ^ 20 }
     requires rows { AsksRows script.now.ops }
     requires first { list_all is_first_op script.now.ops ≡ true }
-    ensures ok { IfOk result (λ r. (contents : List (List Sector)) → StandIn images.now contents
-        → LeavesRun B.opening B.log (opened_on images.now contents) (asked_by script.now) limit
-        (λ d. Rose (B.faults_of bank d) (B.faults_of r.bank d)) (B.log bank) r.bank r.journal.entries r.end) }
-    ensures opening { IfOk result (λ r. Keeps (B.opening bank) (B.opening r.bank)) }
-    ensures same { IfOk result (λ r. (B.serials r.bank ≡ B.serials bank) × (B.sizes r.bank ≡ B.sizes bank)) }
+    ensures run { IfOk result (λ r. (contents : List (List Sector)) → StandIn images.now contents
+        → LeavesRun (opened_on images.now contents) (asked_by script.now) limit
+        (anchor_reads images.now) (bank_told B.Bank r.bank) r.journal.entries r.end) }
+    ensures found { IfOk result (λ r. IsFoundOn (bank_told B.Bank r.bank) images.now) }
+    ensures same { IfOk result (λ r. B.serials r.bank ≡ B.serials bank) }
     ensures err { IfErr result (λ e. e.0 ≡ bank) }
 {
     let mut stage = Stage::open(alloc, bank, opening_of(images), script, limit)?;

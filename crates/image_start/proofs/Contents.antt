@@ -1,5 +1,6 @@
 -- The contents of disks on which the anchors of images that start stand.
 use Rattle.std.proofs.Common.{◌≡◌, ℕ, zero, suc, ◌+◌, ◌-◌, ◌<◌, ◌≤◌, true, List, [], ◌∷◌, ◌++◌, length, map, replicate, slice_get, slice_index, slice_index_or, Option, Some, None, IsSomeAnd, unwrap_or, refl, sym, ◌∙◌, ap, subst, arith}
+use Rattle.std.specs.Prelude.{IfSome}
 use Rattle.std.specs.List.{AllByRecursion, list_all}
 use Rattle.std.proofs.lemmas.List.{length-append, length-replicate}
 use Rattle.imsm_base.specs.declared.units.Sector.{Sector}
@@ -13,8 +14,8 @@ use Rattle.control_state.specs.Seen.{no_sector}
 use Rattle.first_opening.specs.Opened.{IsOpening, block_of, serial_at}
 use Rattle.image_verdict.specs.declared.images.ImageRead.{ImageRead}
 use Rattle.image_verdict.specs.Reports.{Holds, bytes_of_all, first_block}
-use Rattle.image_verdict.specs.Images.{sizes_of_all, serials_of_all}
-use Rattle.image_start.specs.Starts.{IsStarted, StandIn, Starts}
+use Rattle.image_verdict.specs.Images.{StandIn, sizes_of_all, serials_of_all}
+use Rattle.image_start.specs.Starts.{IsStarted, Starts}
 use Rattle.image_start.specs.Openings.{first_anchor, opened_on}
 use Rattle.image_start.proofs.Images.{IsAt, IsFirst, IsRead, all-hold, all-there, are-apart, first-image, holds-at, image-at, is-read, length-serials, none-absent}
 
@@ -34,10 +35,12 @@ whole-at images contents d s below =
     subst (λ (n : ℕ). IsWholeDisk at.image.serial.0 n (given_block (first_anchor images).0) (block_in (given_block (first_anchor images).0))) (sym at.sectors) (
     subst (λ (bytes : List ℕ). IsWholeDisk at.image.serial.0 at.image.sectors bytes (block_in bytes)) (sym (block-is images contents s)) whole))
 
--- what stands at the place of an image's anchor
-stands-at : (images : List ImageRead) (contents : List (List Sector)) (d : ℕ) → StandIn images contents → (at : IsAt images d)
-    → slice_get (slice_index_or contents d []) (anchor_place (slice_index (sizes_of_all images) d)) ≡ at.image.anchor
-stands-at images contents d stand at = ap (λ (n : ℕ). slice_get (slice_index_or contents d []) (anchor_place n)) at.sectors ∙ stand.anchors d at.image at.there
+-- what stands at the place of an image's anchor, where that was read
+stands-at : (images : List ImageRead) (contents : List (List Sector)) (d : ℕ) → StandIn images contents → (at : IsAt images d) → (a : Sector) → at.image.anchor ≡ Some a
+    → slice_get (slice_index_or contents d []) (anchor_place (slice_index (sizes_of_all images) d)) ≡ Some a
+stands-at images contents d stand at a was =
+    ap (λ (n : ℕ). slice_get (slice_index_or contents d []) (anchor_place n)) at.sectors
+    ∙ subst (λ (o : Option Sector). IfSome o (λ (x : Sector). slice_get (slice_index_or contents d []) (anchor_place at.image.sectors) ≡ Some x)) was (stand.anchors d at.image at.there)
 
 anchored-at : (images : List ImageRead) (contents : List (List Sector)) (d : ℕ) → Starts images → StandIn images contents → d < length (opened_on images contents).serials
     → IsSomeAnd (slice_get (slice_index_or contents d []) (anchor_place (slice_index (sizes_of_all images) d))) (λ a. given_block a.0 ≡ block_of (opened_on images contents))
@@ -45,7 +48,7 @@ anchored-at images contents d s stand below =
     let block : List ℕ = first_block images in
     let at : IsAt images d = image-at images d (omega (arith, below, length-serials images)) in
     let read : IsRead block at.image = is-read block at.image (holds-at block images d at.image (all-hold images s.started) at.there) in
-    subst (λ (o : Option Sector). IsSomeAnd o (λ a. given_block a.0 ≡ given_block (first_anchor images).0)) (sym (stands-at images contents d stand at ∙ read.was)) (read.block_is ∙ sym (block-is images contents s))
+    subst (λ (o : Option Sector). IsSomeAnd o (λ a. given_block a.0 ≡ given_block (first_anchor images).0)) (sym (stands-at images contents d stand at read.anchor read.was)) (read.block_is ∙ sym (block-is images contents s))
 
 read-at : (images : List ImageRead) (contents : List (List Sector)) → Starts images → StandIn images contents
     → slice_get (slice_index_or contents 0 []) (anchor_place (slice_index (sizes_of_all images) 0)) ≡ Some (first_anchor images)
@@ -53,7 +56,7 @@ read-at images contents s stand =
     let first : IsFirst images = first-image images s.some s.started in
     let at : IsAt images 0 = image-at images 0 (omega (arith, s.some)) in
     let same : Some at.image ≡ Some first.image = sym at.there ∙ first.there in
-    stands-at images contents 0 stand at ∙ ap (λ (o : Option ImageRead). anchor_in o) same ∙ first.anchor
+    stands-at images contents 0 stand at (first_anchor images) (ap (λ (o : Option ImageRead). anchor_in o) same ∙ first.anchor)
   where
     anchor_in : Option ImageRead → Option Sector
     anchor_in (Some i) = i.anchor
@@ -113,10 +116,14 @@ anchor-filled images d image started there =
     ∙ ap (λ (o : Option Sector). Some (unwrap_or o no_sector)) read.was
     ∙ sym read.was
 
+if-read : (there anchor : Option Sector) → there ≡ anchor → IfSome anchor (λ (a : Sector). there ≡ Some a)
+if-read there None is = tt
+if-read there (Some a) is = is
+
 pub some-stand : (images : List ImageRead) → IsStarted images → StandIn images (map filled images)
 some-stand images started = record {
   sizes = sizes-filled (first_block images) images (all-hold images started);
-  anchors = λ d image there. anchor-filled images d image started there;
+  anchors = λ d image there. if-read _ image.anchor (anchor-filled images d image started there);
 }
 
 -- a bank of these images, as the laws take it

@@ -1,5 +1,4 @@
 pub mod Images
 pub mod Contents
-pub mod Told
 pub mod Numbers
 pub mod Found

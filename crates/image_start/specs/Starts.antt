@@ -1,15 +1,13 @@
--- Images that start, and the contents of disks on which their anchors were read. Source: this project's own.
-use Rattle.std.specs.Prelude.{◌≡◌, ◌≢◌, ℕ, ◌≤◌, List, length, map, slice_get, slice_index_or, Some, []}
+-- Images that start. Source: this project's own.
+use Rattle.std.specs.Prelude.{◌≢◌, ℕ, ◌≤◌, List, length}
 use Rattle.std.specs.List.{AllPairs}
 use Rattle.arrayvec.specs.ArrayVec.{ArrayVec}
 use Rattle.imsm_base.specs.declared.bounds.TheConstants.{MAX_DISKS}
-use Rattle.imsm_base.specs.declared.units.Sector.{Sector}
 use Rattle.imsm_base.specs.declared.units.Serial.{Serial}
-use Rattle.imsm_base.specs.Whole.{anchor_place}
 use Rattle.image_verdict.specs.declared.images.ImageRead.{ImageRead}
 use Rattle.image_verdict.specs.declared.report.Report.TheVariants.{Started}
 use Rattle.image_verdict.specs.Reports.{IsReport}
-use Rattle.image_verdict.specs.Images.{sizes_of_all, serials_of_all}
+use Rattle.image_verdict.specs.Images.{serials_of_all}
 
 -- the report on the images is that their volume starts
 pub record IsStarted (images : List ImageRead) : Type 0 where
@@ -28,9 +26,3 @@ pub record Starts (images : List ImageRead) : Type 0 where
   pub few : length images ≤ MAX_DISKS
   pub distinct : AreDistinct images
   pub started : IsStarted images
-
--- disks with these sectors have the images' sizes, and at the place of each image's anchor stands what was read there
-pub record StandIn (images : List ImageRead) (contents : List (List Sector)) : Type 0 where
-  pub sizes : sizes_of_all images ≡ map (λ (sectors : List Sector). length sectors) contents
-  pub anchors : (d : ℕ) (image : ImageRead) → slice_get images d ≡ Some image
-      → slice_get (slice_index_or contents d []) (anchor_place image.sectors) ≡ image.anchor

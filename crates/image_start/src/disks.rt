@@ -48,7 +48,9 @@ fn member_of(images: &[ImageRead], mpb: &MpbRef<'_>, slot: Slot) -> DiskNo
     requires starts { Starts images.now }
     requires block { block_bytes mpb.now ≡ first_block images.now }
     requires slot { slot.0 < 2 }
-    ensures { position (λ (i : Image). bytes_eq i.serial.0 (slot_words (block_of mpb.now) (member (volume_at 0 (block_of mpb.now)) slot.0)).serial) images.now ≡ Some result.0 }
+    ensures { position (λ (i : Image). bytes_eq i.serial.0
+        (slot_words (block_of mpb.now) (member (volume_at 0 (block_of mpb.now)) slot.0)).serial) images.now
+        ≡ Some result.0 }
 {
     let index = (mpb.map_ord(VolNo(0), 0, slot) % INDEX_RANGE) as u8;
     image_of(images, &mpb.disk_serial(index))

@@ -5,4 +5,4 @@ mod block;
 mod disks;
 mod opening;
 
-pub use opening::{opening_of, told_images_stand};
+pub use opening::opening_of;

@@ -1,17 +1,14 @@
 //! What a stage is opened with.
-ghost use Rattle.std.specs.Prelude.{◌≡◌, ◌≤◌, ◌<◌, ℕ, List, length, map};
+ghost use Rattle.std.specs.Prelude.{◌≤◌, ◌<◌, List, length};
 ghost use Rattle.imsm_base.specs.declared.units.Sector.{Sector as SectorBytes};
-ghost use Rattle.imsm_base.specs.declared.units.Serial.{Serial};
 ghost use Rattle.imsm_codec.specs.Mpb.{block_bytes};
-ghost use Rattle.device_log.specs.Log.{Call};
 ghost use Rattle.block_words.specs.Reading.{block_words};
 ghost use Rattle.control_state.specs.Book.{IsBook, IsBlockOf};
 ghost use Rattle.control_state.specs.Seen.{numbers};
 ghost use Rattle.first_opening.specs.Opened.{IsOpening};
 ghost use Rattle.stage.specs.Runs.{FitsDisks};
-ghost use Rattle.image_verdict.specs.declared.images.ImageRead.{ImageRead as Image};
-ghost use Rattle.image_verdict.specs.Images.{images_told, sizes_of_all};
-ghost use Rattle.image_start.specs.Starts.{AreDistinct, IsStarted, StandIn};
+ghost use Rattle.image_verdict.specs.Images.{StandIn, sizes_of_all};
+ghost use Rattle.image_start.specs.Starts.{AreDistinct, IsStarted};
 ghost use Rattle.image_start.specs.Openings.{IsMirrorShape, Opens, first_shape, opened_on};
 
 use crate::block::{first_anchor, first_block};
@@ -32,9 +29,11 @@ pub fn opening_of(images: &[ImageRead]) -> Opening<'_>
     ensures book { IsBook (block_bytes result.block) }
     ensures newest { IsBlockOf result.newest (block_bytes result.block) }
     ensures generation { block_words.generation result.newest < 0xff000000 }
-    ensures disks { FitsDisks (numbers result.targets.items) (numbers result.members.items) result.pba result.size (sizes_of_all images.now) }
+    ensures disks { FitsDisks (numbers result.targets.items) (numbers result.members.items)
+        result.pba result.size (sizes_of_all images.now) }
     // The laws begin with it, over disks on which the anchors stand, of which there are some.
-    ensures opening { (contents : List (List SectorBytes)) → StandIn images.now contents → IsOpening (opened_on images.now contents) }
+    ensures opening { (contents : List (List SectorBytes)) → StandIn images.now contents
+        → IsOpening (opened_on images.now contents) }
     ensures stands { (contents : List (List SectorBytes)) × StandIn images.now contents }
     ensures shape { (contents : List (List SectorBytes)) → IsMirrorShape (first_shape (opened_on images.now contents)) }
 {
@@ -52,10 +51,3 @@ pub fn opening_of(images: &[ImageRead]) -> Opening<'_>
         size,
     }
 }
-
-/// Where images start, and are those that a bank tells of, their anchors stand in what the bank held when it was opened.
-pub fn told_images_stand()
-    ensures { (images : List Image) (serials : List Serial) (sizes : List ℕ) (contents : List (List SectorBytes)) (log : List Call)
-        → IsStarted images → images ≡ images_told serials sizes contents log
-        → sizes ≡ map (λ (sectors : List SectorBytes). length sectors) contents → StandIn images contents }
-{}

@@ -2,3 +2,4 @@ pub mod Pieces
 pub mod Reading
 pub mod Tables
 pub mod Held
+pub mod Reported

@@ -1,35 +1,24 @@
--- One more anchor that was read.
-use Rattle.std.proofs.Common.{◌≡◌, ◌<◌, ◌+◌, ◌&&◌, ◌||◌, ℕ, zero, suc, List, [], ◌∷◌, ◌++◌, Bool, true, false, cond, length, map, take, Option, Some, None, refl, sym, ◌∙◌, ap, subst, arith}
+-- Anchors that are read, one disk after the other.
+use Rattle.std.proofs.Common.{◌≡◌, ◌<◌, ◌≤◌, ◌+◌, inl, inr, ℕ, zero, suc, List, [], ◌∷◌, ◌++◌, Bool, true, false, cond, length, map, take, Option, Some, None, refl, sym, ◌∙◌, ap, subst, arith, append_assoc}
 use Rattle.std.specs.Prelude.{IfSome, slice_get, slice_index, slice_index_or, is_some, nat_lt, ◌==◌}
-use Rattle.std.specs.List.{list_all, range_with_len}
 use Rattle.std.specs.Option.{IsSomeAnd}
-use Rattle.std.proofs.lemmas.Bool.{false≢true, ltb-true, ne_eqb}
-use Rattle.std.proofs.lemmas.Bool.Decides.{nat_tests}
-use Rattle.std.proofs.lemmas.List.Folds.{list_any-append, list_all-append}
-use Rattle.std.proofs.lemmas.List.FromFn.{map-range_with_len_more}
 use Rattle.std.proofs.lemmas.Option.{get_or_from_slice_get, slice_get-get_or, slice_get_within}
-use Rattle.std.proofs.lemmas.List.{map-append}
+use Rattle.std.proofs.lemmas.List.{append-nil, length-append, map-append, take_all}
 use Rattle.std.proofs.lemmas.Grind.{take_at_read}
 use Rattle.imsm_base.specs.declared.bounds.TheConstants.{METADATA_SECTORS}
 use Rattle.imsm_base.specs.declared.units.Sector.{Sector}
-use Rattle.imsm_base.specs.declared.units.Serial.{Serial}
 use Rattle.imsm_base.specs.Whole.{anchor_place}
 use Rattle.device_log.specs.Log.{Call, What, Read, Write, Sync}
 use Rattle.device_log.specs.Cells.{Cell, Stands, cell_after, cell_called, cell_at, resting}
 use Rattle.member_bank.specs.Told.{Keeps, LogsAll, Gives}
 use Rattle.image_outside.specs.Outside.{OnlyReads, IsRead}
+use Rattle.image_outside.specs.Shelves.{HasOnlyReads, IsUncalled}
+use Rattle.image_outside.specs.Told.{BankTold}
 use Rattle.image_verdict.specs.declared.images.ImageRead.{ImageRead}
-use Rattle.image_verdict.specs.Images.{anchor_calls, anchor_told, is_below, is_read_at, was_read, image_told, images_told, AreRead, blank_serial}
+use Rattle.image_verdict.specs.Images.{anchor_calls, anchor_reads, anchor_reads_from, serials_of_all, sizes_of_all, IsAnchorOn, IsFoundOn, StandIn}
 
-and_left : (a b : Bool) → (a && b) ≡ true → a ≡ true
-and_left true b both = refl
-and_left false b both = both
+-- READS LEAVE A PLACE AS IT IS
 
-and_right : (a b : Bool) → (a && b) ≡ true → b ≡ true
-and_right true b both = both
-and_right false b both = absurd (false≢true both)
-
--- reads leave a place as it is
 cell_read : (d p : ℕ) (c : Cell) (what : What) (went : Bool) → IsRead what → cell_at p c what went ≡ c
 cell_read d p c (Read place) went reads = refl
 cell_read d p c (Write place sectors stored) went reads = absurd reads
@@ -53,189 +42,180 @@ stands_first o log d p s reads = at (slice_get (slice_index_or o d []) p) where
   at None stands = absurd stands
   at (Some f) stands = ap (λ (x : Sector). Some x) (sym (ap (λ (c : Cell). c.stood) (cell_reads d p (resting f) log reads)) ∙ stands)
 
--- a disk on which no call was made wasn't read
-unread_below : (k p : ℕ) (log : List Call) → list_all (is_below k) log ≡ true → was_read k p log ≡ false
-unread_below k p [] below = refl
-unread_below k p (c ∷ log) below =
-    let small : c.disk < k = ltb-true c.disk k (and_left (is_below k c) (list_all (is_below k) log) below) in
-    let other : (c.disk == k) ≡ false = ne_eqb c.disk k (λ is. omega arith) in
-    ap (λ b. (b && (c.went && is_read_at p c.what)) || was_read k p log) other ∙ unread_below k p log (and_right (is_below k c) (list_all (is_below k) log) below)
+-- THE CALLS
 
-below_more : (k : ℕ) (log : List Call) → list_all (is_below k) log ≡ true → list_all (is_below (k + 1)) log ≡ true
-below_more k [] below = refl
-below_more k (c ∷ log) below =
-    let small : c.disk < k = ltb-true c.disk k (and_left (is_below k c) (list_all (is_below k) log) below) in
-    let rest = below_more k log (and_right (is_below k c) (list_all (is_below k) log) below) in
-    let here : is_below (k + 1) c ≡ true = grind (arith, nat_tests) in
-    rw (here, rest) refl
-
--- the calls on a disk: of that disk alone, and reads alone
-calls_only_read : (k n : ℕ) (a : Option Sector) → OnlyReads (anchor_calls k n a)
-calls_only_read k n a = at (nat_lt n METADATA_SECTORS) where
-  at : (small : Bool) → OnlyReads (cond small [] (record { disk = k; what = Read (anchor_place n); went = is_some a } ∷ []))
+calls_only_read : (d n : ℕ) (a : Option Sector) → OnlyReads (anchor_calls d n a)
+calls_only_read d n a = at (nat_lt n METADATA_SECTORS) where
+  at : (small : Bool) → OnlyReads (cond small [] (record { disk = d; what = Read (anchor_place n); went = is_some a } ∷ []))
   at true = tt
   at false = (tt, tt)
-
-calls_below : (k n : ℕ) (a : Option Sector) → list_all (is_below (k + 1)) (anchor_calls k n a) ≡ true
-calls_below k n a = at (nat_lt n METADATA_SECTORS) where
-  here : nat_lt k (k + 1) ≡ true
-  here = grind (arith, nat_tests)
-
-  at : (small : Bool) → list_all (is_below (k + 1)) (cond small [] (record { disk = k; what = Read (anchor_place n); went = is_some a } ∷ [])) ≡ true
-  at true = refl
-  at false = ap (λ b. b && true) here
-
-calls_elsewhere : (k n : ℕ) (a : Option Sector) (d p : ℕ) → d < k → was_read d p (anchor_calls k n a) ≡ false
-calls_elsewhere k n a d p other = at (nat_lt n METADATA_SECTORS) where
-  apart : (k == d) ≡ false
-  apart = ne_eqb k d (λ is. omega arith)
-
-  at : (small : Bool) → was_read d p (cond small [] (record { disk = k; what = Read (anchor_place n); went = is_some a } ∷ [])) ≡ false
-  at true = refl
-  at false = ap (λ b. (b && (is_some a && (anchor_place n == p))) || false) apart
-
--- what a bank tells of the anchor of disk k, after the calls on it
-told_here : (o : List (List Sector)) (log : List Call) (k n : ℕ) (a : Option Sector) → was_read k (anchor_place n) log ≡ false
-    → (n < METADATA_SECTORS → a ≡ None) → OnlyReads (log ++ anchor_calls k n a)
-    → IfSome a (λ (s : Sector). Stands o (log ++ anchor_calls k n a) k (anchor_place n) s)
-    → a ≡ anchor_told o (log ++ anchor_calls k n a) k n
-told_here o log k n a unread small reads gives = at (nat_lt n METADATA_SECTORS) refl a small reads gives where
-  same : (k == k) ≡ true
-  same = grind (arith, nat_tests)
-
-  place : (anchor_place n == anchor_place n) ≡ true
-  place = grind (arith, nat_tests)
-
-  made : Bool → Option Sector → List Call
-  made b a = cond b [] (record { disk = k; what = Read (anchor_place n); went = is_some a } ∷ [])
-
-  read : (calls : List Call) (b : Bool) → was_read k (anchor_place n) calls ≡ b → was_read k (anchor_place n) (log ++ calls) ≡ b
-  read calls b is = list_any-append _ log calls ∙ ap (λ w. w || was_read k (anchor_place n) calls) unread ∙ is
-
-  chosen : (calls : List Call) (b : Bool) → was_read k (anchor_place n) calls ≡ b
-      → anchor_told o (log ++ calls) k n ≡ cond b (slice_get (slice_index_or o k []) (anchor_place n)) None
-  chosen calls b is = ap (λ w. cond w (slice_get (slice_index_or o k []) (anchor_place n)) None) (read calls b is)
-
-  tested : (w : Bool) → was_read k (anchor_place n) (record { disk = k; what = Read (anchor_place n); went = w } ∷ []) ≡ w
-  tested true = rw (same, place) refl
-  tested false = rw same refl
-
-  at : (b : Bool) → nat_lt n METADATA_SECTORS ≡ b → (a : Option Sector) → (n < METADATA_SECTORS → a ≡ None) → OnlyReads (log ++ made b a)
-      → IfSome a (λ (s : Sector). Stands o (log ++ made b a) k (anchor_place n) s) → a ≡ anchor_told o (log ++ made b a) k n
-  at true is a none reads gives = none (ltb-true n METADATA_SECTORS is) ∙ sym (chosen [] false refl)
-  at false is None none reads gives = sym (chosen (made false None) false (tested false))
-  at false is (Some s) none reads gives =
-      sym (stands_first o (log ++ made false (Some s)) k (anchor_place n) s reads gives) ∙ sym (chosen (made false (Some s)) true (tested true))
-
-or_false : (b : Bool) → (b || false) ≡ b
-or_false true = refl
-or_false false = refl
 
 only_reads_both : (xs ys : List Call) → OnlyReads xs → OnlyReads ys → OnlyReads (xs ++ ys)
 only_reads_both [] ys first second = second
 only_reads_both (x ∷ xs) ys first second = (first.0, only_reads_both xs ys first.1 second)
 
-map_same : (f g : ℕ → ImageRead) (a n : ℕ) → ((d : ℕ) → d < a + n → f d ≡ g d) → map f (range_with_len a n) ≡ map g (range_with_len a n)
-map_same f g a zero each = refl
-map_same f g a (suc n) each =
-    let here : f a ≡ g a = each a (omega arith) in
-    let rest : map f (range_with_len (a + 1) n) ≡ map g (range_with_len (a + 1) n) = map_same f g (a + 1) n (λ d below. each d (omega arith)) in
-    rw (here, rest) refl
+reads_from : (d : ℕ) (images : List ImageRead) → OnlyReads (anchor_reads_from d images)
+reads_from d [] = tt
+reads_from d (i ∷ is) = only_reads_both (anchor_calls d i.sectors i.anchor) (anchor_reads_from (suc d) is) (calls_only_read d i.sectors i.anchor) (reads_from (suc d) is)
 
-pub are_read_none : (serials : List Serial) (sizes : List ℕ) (opening : Option (List (List Sector))) (log : Option (List Call)) → IfSome log (λ l. l ≡ []) → AreRead serials sizes opening log 0 []
-are_read_none serials sizes opening log fresh = record {
-  reads = λ l is. subst OnlyReads (sym (empty l is)) tt;
-  below = λ l is. subst (λ (x : List Call). list_all (is_below 0) x ≡ true) (sym (empty l is)) refl;
-  told = λ o l io il. refl;
-} where
-  empty : (l : List Call) → log ≡ Some l → l ≡ []
-  empty l is = subst (λ (x : Option (List Call)). IfSome x (λ l. l ≡ [])) is fresh
+pub anchors_only_read : (images : List ImageRead) → OnlyReads (anchor_reads images)
+anchors_only_read images = reads_from 0 images
 
-pub are_read_more : (serials : List Serial) (sizes : List ℕ) (o0 o1 : Option (List (List Sector))) (l0 l1 : Option (List Call)) (k : ℕ) (images : List ImageRead) (image : ImageRead)
-    → AreRead serials sizes o0 l0 k images → Keeps o0 o1 → LogsAll l0 l1 (anchor_calls k (slice_index sizes k) image.anchor)
-    → IfSome image.anchor (λ (s : Sector). Gives o1 l1 k (anchor_place (slice_index sizes k)) s)
-    → (slice_index sizes k < METADATA_SECTORS → image.anchor ≡ None) → image.serial ≡ slice_index_or serials k blank_serial → image.sectors ≡ slice_index sizes k
-    → AreRead serials sizes o1 l1 (k + 1) (images ++ image ∷ [])
-are_read_more serials sizes o0 o1 l0 l1 k images image so_far keeps logs gives small named sized =
-    let n = slice_index sizes k in
-    let calls = anchor_calls k n image.anchor in
-    let only : (l : List Call) → l1 ≡ Some l → OnlyReads l = λ l is.
-    let h = logs l is in
-    subst OnlyReads (sym h.2) (only_reads_both h.0 calls (so_far.reads h.0 h.1) (calls_only_read k n image.anchor)) in
-    record {
-      reads = only;
-      below = λ l is.
-          let h = logs l is in
-          subst (λ (x : List Call). list_all (is_below (k + 1)) x ≡ true) (sym h.2)
-          (list_all-append (is_below (k + 1)) h.0 calls ∙ ap (λ b. b && list_all (is_below (k + 1)) calls) (below_more k h.0 (so_far.below h.0 h.1)) ∙ calls_below k n image.anchor);
-      told = λ o l io il.
-          let h = logs l il in
-          let before = h.0 in
-          let stands : IfSome image.anchor (λ (s : Sector). Stands o (before ++ calls) k (anchor_place n) s) = told_stands o1 l1 o l k (anchor_place n) image.anchor io il gives h.0 calls h.2 in
-          let reads : OnlyReads (before ++ calls) = subst OnlyReads h.2 (only l il) in
-          let anchored : image.anchor ≡ anchor_told o (before ++ calls) k n = told_here o before k n image.anchor (unread_below k (anchor_place n) before (so_far.below before h.1)) small reads stands in
-          let same : (d : ℕ) → d < 0 + k → image_told serials sizes o before d ≡ image_told serials sizes o (before ++ calls) d = λ d below. told_elsewhere serials sizes o before k n image.anchor d (omega arith) in
-          let last : image ≡ image_told serials sizes o (before ++ calls) k = image_is image (slice_index_or serials k blank_serial) n (anchor_told o (before ++ calls) k n) named sized anchored in
-          subst (λ (x : List Call). images ++ image ∷ [] ≡ map (image_told serials sizes o x) (range_with_len 0 (k + 1))) (sym h.2)
-          (ap (λ (xs : List ImageRead). xs ++ image ∷ []) (so_far.told o before (keeps o io) h.1 ∙ map_same _ _ 0 k same)
-          ∙ ap (λ (x : ImageRead). map (image_told serials sizes o (before ++ calls)) (range_with_len 0 k) ++ x ∷ []) last
-          ∙ sym (map-range_with_len_more (image_told serials sizes o (before ++ calls)) 0 k k (omega arith)));
-    }
-  where
-    image_is : (i : ImageRead) (s : Serial) (n : ℕ) (a : Option Sector) → i.serial ≡ s → i.sectors ≡ n → i.anchor ≡ a → i ≡ (let x : ImageRead = record { serial = s; sectors = n; anchor = a } in x)
-    image_is i s n a named sized anchored = rw (← named, ← sized, ← anchored) refl
+more_from : (d n : ℕ) (images : List ImageRead) (i : ImageRead) → d + length images ≡ n
+    → anchor_reads_from d (images ++ i ∷ []) ≡ anchor_reads_from d images ++ anchor_calls n i.sectors i.anchor
+more_from d n [] i is =
+    let same : d ≡ n = omega (arith, is) in
+    append-nil (anchor_calls d i.sectors i.anchor) ∙ ap (λ (k : ℕ). anchor_calls k i.sectors i.anchor) same
+more_from d n (x ∷ xs) i is =
+    ap (λ (calls : List Call). anchor_calls d x.sectors x.anchor ++ calls) (more_from (suc d) n xs i (omega (arith, is)))
+    ∙ sym (append_assoc (anchor_calls d x.sectors x.anchor) (anchor_reads_from (suc d) xs) (anchor_calls n i.sectors i.anchor))
 
-    told_elsewhere : (serials : List Serial) (sizes : List ℕ) (o : List (List Sector)) (log : List Call) (k n : ℕ) (a : Option Sector) (d : ℕ) → d < k
-        → image_told serials sizes o log d ≡ image_told serials sizes o (log ++ anchor_calls k n a) d
-    told_elsewhere serials sizes o log k n a d below =
-        let p = anchor_place (slice_index sizes d) in
-        let same : was_read d p (log ++ anchor_calls k n a) ≡ was_read d p log =
-        list_any-append _ log (anchor_calls k n a) ∙ ap (λ b. was_read d p log || b) (calls_elsewhere k n a d p below) ∙ or_false (was_read d p log) in
-        ap (λ (b : Bool). let x : ImageRead = record { serial = slice_index_or serials d blank_serial; sectors = slice_index sizes d; anchor = cond b (slice_get (slice_index_or o d []) p) None } in x) (sym same)
+-- THE IMAGES OF THE FIRST DISKS
 
-    told_stands : (o1 : Option (List (List Sector))) (l1 : Option (List Call)) (o : List (List Sector)) (l : List Call) (k p : ℕ) (a : Option Sector) → o1 ≡ Some o → l1 ≡ Some l
-        → IfSome a (λ (s : Sector). Gives o1 l1 k p s) → (before calls : List Call) → l ≡ before ++ calls → IfSome a (λ (s : Sector). Stands o (before ++ calls) k p s)
-    told_stands o1 l1 o l k p None io il gives before calls is = tt
-    told_stands o1 l1 o l k p (Some s) io il gives before calls is =
-        subst (λ (x : List Call). Stands o x k p s) is
-        (subst (λ (x : Option (List Call)). Gives (Some o) x k p s) il (subst (λ (x : Option (List (List Sector))). Gives x l1 k p s) io gives))
+-- what each anchor that was read is, by what the disks held
+abbrev pub Stood : List (List Sector) → ℕ → ImageRead → Type 0
+Stood contents d image = IfSome image.anchor (λ (a : Sector). slice_get (slice_index_or contents d []) (anchor_place image.sectors) ≡ Some a)
 
--- the same where the bank's sizes and serials are those of the beginning
-pub are_read_next : (serials serials' : List Serial) (sizes sizes' : List ℕ) (o0 o1 : Option (List (List Sector))) (l0 l1 : Option (List Call)) (k : ℕ) (images more : List ImageRead) (image : ImageRead)
-    → AreRead serials sizes o0 l0 k images → serials' ≡ serials → sizes' ≡ sizes → Keeps o0 o1 → LogsAll l0 l1 (anchor_calls k (slice_index sizes' k) image.anchor)
-    → IfSome image.anchor (λ (s : Sector). Gives o1 l1 k (anchor_place (slice_index sizes' k)) s)
-    → (slice_index sizes' k < METADATA_SECTORS → image.anchor ≡ None) → slice_get serials' k ≡ Some image.serial → image.sectors ≡ slice_index sizes' k
-    → more ≡ images ++ image ∷ [] → AreRead serials sizes o1 l1 (k + 1) more
-are_read_next serials serials' sizes sizes' o0 o1 l0 l1 k images more image so_far same_serials same_sizes keeps logs gives small named sized pushed =
-    subst (λ (x : List ImageRead). AreRead serials sizes o1 l1 (k + 1) x) (sym pushed)
-    (are_read_more serials sizes o0 o1 l0 l1 k images image so_far keeps
-    (subst (λ (x : List ℕ). LogsAll l0 l1 (anchor_calls k (slice_index x k) image.anchor)) same_sizes logs)
-    (subst (λ (x : List ℕ). IfSome image.anchor (λ (s : Sector). Gives o1 l1 k (anchor_place (slice_index x k)) s)) same_sizes gives)
-    (subst (λ (x : List ℕ). slice_index x k < METADATA_SECTORS → image.anchor ≡ None) same_sizes small)
-    (sym (get_or_from_slice_get serials k image.serial blank_serial (subst (λ (x : List Serial). slice_get x k ≡ Some image.serial) same_serials named)))
-    (subst (λ (x : List ℕ). image.sectors ≡ slice_index x k) same_sizes sized))
+-- the images of so many disks of a bank were read, and nothing but that was done
+pub record AreFound (bank : BankTold) (count : ℕ) (images : List ImageRead) : Type 0 where
+  pub counted : length images ≡ count
+  pub named : serials_of_all images ≡ take count bank.serials
+  pub sized : sizes_of_all images ≡ take count bank.sizes
+  pub anchors : (d : ℕ) (image : ImageRead) → slice_get images d ≡ Some image → IsAnchorOn bank d image.sectors image.anchor
+  pub stand : (contents : List (List Sector)) (log : List Call) → bank.opening ≡ Some contents → bank.log ≡ Some log
+      → (d : ℕ) (image : ImageRead) → slice_get images d ≡ Some image → Stood contents d image
+  pub calls : (log : List Call) → bank.log ≡ Some log → log ≡ anchor_reads images
 
-pub reads_of : (serials : List Serial) (sizes : List ℕ) (opening : Option (List (List Sector))) (log : Option (List Call)) (k : ℕ) (images : List ImageRead)
-    → AreRead serials sizes opening log k images → IfSome log OnlyReads
-reads_of serials sizes opening None k images read = tt
-reads_of serials sizes opening (Some l) k images read = read.reads l refl
+uncalled : (log : Option (List Call)) → IfSome log (λ l. l ≡ []) → (l : List Call) → log ≡ Some l → l ≡ []
+uncalled log fresh l is = subst (λ (x : Option (List Call)). IfSome x (λ l. l ≡ [])) is fresh
 
-pub told_of : (serials : List Serial) (sizes : List ℕ) (opening : Option (List (List Sector))) (log : Option (List Call)) (k : ℕ) (images : List ImageRead)
-    → AreRead serials sizes opening log k images → k ≡ length sizes → IfSome opening (λ o. IfSome log (λ l. images ≡ images_told serials sizes o l))
-told_of serials sizes None log k images read all = tt
-told_of serials sizes (Some o) None k images read all = tt
-told_of serials sizes (Some o) (Some l) k images read all = read.told o l refl refl ∙ ap (λ n. map (image_told serials sizes o l) (range_with_len 0 n)) all
+pub found_none : (bank : BankTold) → IsUncalled bank → AreFound bank 0 []
+found_none bank fresh = record {
+  counted = refl;
+  named = refl;
+  sized = refl;
+  anchors = λ d image is. absurd (cc is);
+  stand = λ contents log held known d image is. absurd (cc is);
+  calls = uncalled bank.log fresh;
+}
 
--- WHAT IS KNOWN OF EACH DISK
+-- what was so of each image is so of one more
+each_more : (P : ℕ → ImageRead → Type 0) (images : List ImageRead) (image : ImageRead) → ((d : ℕ) (i : ImageRead) → slice_get images d ≡ Some i → P d i)
+    → P (length images) image → (d : ℕ) (i : ImageRead) → slice_get (images ++ image ∷ []) d ≡ Some i → P d i
+each_more P [] image each last zero i is = let same : image ≡ i = cc is in subst (P 0) same last
+each_more P [] image each last (suc d) i is = absurd (cc is)
+each_more P (x ∷ xs) image each last zero i is = each 0 i is
+each_more P (x ∷ xs) image each last (suc d) i is =
+    each_more (λ k. P (suc k)) xs image (λ k j at. each (suc k) j at) last d i is
 
 take_next : {X : Type 0} (xs : List X) (d : ℕ) (x : X) → slice_get xs d ≡ Some x → take (d + 1) xs ≡ take d xs ++ x ∷ []
 take_next xs d x there =
     (take_at_read xs d x (slice_get_within xs d x there)).1 ∙ ap (λ y. take d xs ++ y ∷ []) (get_or_from_slice_get xs d x x there)
 
--- one more image, of the next disk
-pub mapped_next : {X : Type 0} (f : ImageRead → X) (xs : List X) (d : ℕ) (images : List ImageRead) (image : ImageRead) → map f images ≡ take d xs → slice_get xs d ≡ Some (f image)
+mapped_next : {X : Type 0} (f : ImageRead → X) (xs : List X) (d : ℕ) (images : List ImageRead) (image : ImageRead) → map f images ≡ take d xs → slice_get xs d ≡ Some (f image)
     → map f (images ++ image ∷ []) ≡ take (d + 1) xs
 mapped_next f xs d images image so_far there = map-append f images (image ∷ []) ∙ ap (λ ys. ys ++ f image ∷ []) so_far ∙ sym (take_next xs d (f image) there)
 
-pub size_there : (sizes : List ℕ) (d n : ℕ) → d < length sizes → n ≡ slice_index sizes d → slice_get sizes d ≡ Some n
+size_there : (sizes : List ℕ) (d n : ℕ) → d < length sizes → n ≡ slice_index sizes d → slice_get sizes d ≡ Some n
 size_there sizes d n within is = slice_get-get_or sizes d 0 within ∙ ap (λ m. Some m) (sym is)
+
+-- a count that rose stays one that rose
+anchor_later : (old new : BankTold) (d n : ℕ) (a : Option Sector) → ((k : ℕ) → old.faults k ≤ new.faults k) → IsAnchorOn old d n a → IsAnchorOn new d n a
+anchor_later old new d n (Some a) later is = is
+anchor_later old new d n None later (inl small) = inl small
+anchor_later old new d n None later (inr rose) = inr (let more = later d in omega (arith, more, rose))
+
+-- an anchor that stands after reads stood there before
+stood_now : (bank : BankTold) (d n : ℕ) (a : Option Sector) (contents : List (List Sector)) (log : List Call) → bank.opening ≡ Some contents → bank.log ≡ Some log → OnlyReads log
+    → IfSome a (λ (s : Sector). Gives bank.opening bank.log d (anchor_place n) s)
+    → IfSome a (λ (s : Sector). slice_get (slice_index_or contents d []) (anchor_place n) ≡ Some s)
+stood_now bank d n None contents log held known reads gives = tt
+stood_now bank d n (Some s) contents log held known reads gives =
+    stands_first contents log d (anchor_place n) s reads
+    (subst (λ (x : Option (List Call)). Gives (Some contents) x d (anchor_place n) s) known
+    (subst (λ (x : Option (List (List Sector))). Gives x bank.log d (anchor_place n) s) held gives))
+
+-- one more image
+module _ (old new : BankTold) (d : ℕ) (images : List ImageRead) (image : ImageRead) (so_far : AreFound old d images) (below : d < length old.sizes)
+    (serial : slice_get old.serials d ≡ Some image.serial) (sectors : image.sectors ≡ slice_index old.sizes d)
+    (logs : LogsAll old.log new.log (anchor_calls d image.sectors image.anchor))
+    (gives : IfSome image.anchor (λ (a : Sector). Gives new.opening new.log d (anchor_place image.sectors) a))
+    (anchor : IsAnchorOn new d image.sectors image.anchor) (keeps : Keeps old.opening new.opening) (later : (k : ℕ) → old.faults k ≤ new.faults k)
+    (sizes : new.sizes ≡ old.sizes) (serials : new.serials ≡ old.serials) where
+  more_calls : (log : List Call) → new.log ≡ Some log → log ≡ anchor_reads (images ++ image ∷ [])
+  more_calls log known =
+      let h = logs log known in
+      h.2 ∙ ap (λ (l : List Call). l ++ anchor_calls d image.sectors image.anchor) (so_far.calls h.0 h.1) ∙ sym (more_from 0 d images image (omega (arith, so_far.counted)))
+
+  only : (log : List Call) → new.log ≡ Some log → OnlyReads log
+  only log known = subst OnlyReads (sym (more_calls log known)) (anchors_only_read (images ++ image ∷ []))
+
+  pub found_more : AreFound new (d + 1) (images ++ image ∷ [])
+  found_more = record {
+    counted = omega (arith, length-append images (image ∷ []), so_far.counted);
+    named = mapped_next (λ (i : ImageRead). i.serial) old.serials d images image so_far.named serial ∙ ap (take (d + 1)) (sym serials);
+    sized = mapped_next (λ (i : ImageRead). i.sectors) old.sizes d images image so_far.sized (size_there old.sizes d image.sectors below sectors) ∙ ap (take (d + 1)) (sym sizes);
+    anchors = each_more (λ k i. IsAnchorOn new k i.sectors i.anchor) images image
+        (λ k i at. anchor_later old new k i.sectors i.anchor later (so_far.anchors k i at))
+        (subst (λ n. IsAnchorOn new n image.sectors image.anchor) (sym so_far.counted) anchor);
+    stand = λ contents log held known.
+        let before = logs log known in
+        each_more (Stood contents) images image (so_far.stand contents before.0 (keeps contents held) before.1)
+        (subst (λ n. Stood contents n image) (sym so_far.counted) (stood_now new d image.sectors image.anchor contents log held known (only log known) gives));
+    calls = more_calls;
+  }
+
+pub reads_of : (bank : BankTold) (count : ℕ) (images : List ImageRead) → AreFound bank count images → HasOnlyReads bank
+reads_of bank count images found = at bank.log found.calls where
+  at : (log : Option (List Call)) → ((l : List Call) → log ≡ Some l → l ≡ anchor_reads images) → IfSome log OnlyReads
+  at None calls = tt
+  at (Some l) calls = subst OnlyReads (sym (calls l refl)) (anchors_only_read images)
+
+-- THE IMAGES OF ALL DISKS
+
+-- what is so of all that was told is so of what is still told
+pub still : {T : Type 0} (P : T → Type 0) (old new : Option T) → Keeps old new → IfSome old P → IfSome new P
+still P old None keeps was = tt
+still P old (Some told) keeps was = subst (λ o. IfSome o P) (keeps told refl) was
+
+stand_of : (opening : Option (List (List Sector))) (log : Option (List Call)) (sizes : List ℕ) (images : List ImageRead) → sizes_of_all images ≡ sizes
+    → IfSome opening (λ contents. map (λ (disk : List Sector). length disk) contents ≡ sizes)
+    → ((contents : List (List Sector)) (l : List Call) → opening ≡ Some contents → log ≡ Some l → (d : ℕ) (image : ImageRead) → slice_get images d ≡ Some image → Stood contents d image)
+    → IfSome opening (λ contents. IfSome log (λ l. StandIn images contents))
+stand_of None log sizes images sized measured stood = tt
+stand_of (Some contents) None sizes images sized measured stood = tt
+stand_of (Some contents) (Some l) sizes images sized measured stood = record {
+  sizes = sized ∙ sym measured;
+  anchors = stood contents l refl refl;
+}
+
+pub found_all : (bank : BankTold) (count : ℕ) (images : List ImageRead) → AreFound bank count images → count ≡ length bank.sizes → length bank.serials ≡ length bank.sizes
+    → IfSome bank.opening (λ contents. map (λ (disk : List Sector). length disk) contents ≡ bank.sizes) → IsFoundOn bank images
+found_all bank count images found all paired measured =
+    let sized : sizes_of_all images ≡ bank.sizes = found.sized ∙ take_all count bank.sizes (omega (arith, all)) in
+    record {
+      named = found.named ∙ take_all count bank.serials (omega (arith, all, paired));
+      sized = sized;
+      anchors = found.anchors;
+      stand = stand_of bank.opening bank.log bank.sizes images sized measured found.stand;
+    }
+
+-- WHAT WAS FOUND IS STILL SO AFTER MORE CALLS
+
+stand_still : (o0 o1 : Option (List (List Sector))) (l0 l1 : Option (List Call)) (images : List ImageRead) → Keeps o0 o1
+    → ((log : List Call) → l1 ≡ Some log → (before : List Call) × (l0 ≡ Some before))
+    → IfSome o0 (λ contents. IfSome l0 (λ l. StandIn images contents)) → IfSome o1 (λ contents. IfSome l1 (λ l. StandIn images contents))
+stand_still o0 None l0 l1 images keeps told stood = tt
+stand_still o0 (Some contents) l0 None images keeps told stood = tt
+stand_still o0 (Some contents) l0 (Some log) images keeps told stood =
+    subst (λ (l : Option (List Call)). IfSome l (λ x. StandIn images contents)) (told log refl).1
+    (subst (λ (o : Option (List (List Sector))). IfSome o (λ c. IfSome l0 (λ x. StandIn images c))) (keeps contents refl) stood)
+
+pub found_later : (old new : BankTold) (images : List ImageRead) → new.serials ≡ old.serials → new.sizes ≡ old.sizes → ((k : ℕ) → old.faults k ≤ new.faults k)
+    → Keeps old.opening new.opening → ((log : List Call) → new.log ≡ Some log → (before : List Call) × (old.log ≡ Some before)) → IsFoundOn old images → IsFoundOn new images
+found_later old new images serials sizes later keeps told found = record {
+  named = found.named ∙ sym serials;
+  sized = found.sized ∙ sym sizes;
+  anchors = λ d image is. anchor_later old new d image.sectors image.anchor later (found.anchors d image is);
+  stand = stand_still old.opening new.opening old.log new.log images keeps told found.stand;
+}

@@ -1,18 +1,18 @@
 -- How a command ends with a report. Source: this project's own.
-use Rattle.std.specs.Prelude.{◌≡◌, ℕ, List, Option, IfSome}
-use Rattle.imsm_base.specs.declared.units.Sector.{Sector}
-use Rattle.imsm_base.specs.declared.units.Serial.{Serial}
-use Rattle.device_log.specs.Log.{Call}
-use Rattle.image_outside.specs.Outside.{Adds}
-use Rattle.image_verdict.specs.Images.{images_told}
+use Rattle.std.specs.Prelude.{◌≡◌, ℕ, List}
+use Rattle.image_outside.specs.Told.{BankTold}
+use Rattle.image_verdict.specs.declared.images.ImageRead.{ImageRead}
 use Rattle.image_verdict.specs.declared.report.Report.{Report}
+use Rattle.image_verdict.specs.Images.{IsFoundOn, HasReadAnchors}
 use Rattle.image_verdict.specs.Reports.{IsReport}
 use Rattle.image_verdict.specs.Text.{report_status, report_text}
 
--- The text of a report on the images of a bank was added, and the status is that of it. Where the bank tells its opening
--- contents and its log, the images are those that it tells of.
-pub record Reports (serials : List Serial) (sizes : List ℕ) (opening : Option (List (List Sector))) (log : Option (List Call)) (old new : Option (List ℕ)) (status : ℕ) : Type 0 where
+-- The anchor of each disk of the bank was read, and the lines and the status are those of the report on the images.
+pub record Reports (bank : BankTold) (lines : List ℕ) (status : ℕ) : Type 0 where
+  pub images : List ImageRead
+  pub found : IsFoundOn bank images
+  pub reads : HasReadAnchors bank images
   pub report : Report
-  pub told : IfSome opening (λ o. IfSome log (λ l. IsReport (images_told serials sizes o l) report))
+  pub says : IsReport images report
+  pub lines_are : lines ≡ report_text report
   pub status_is : status ≡ report_status report
-  pub lines : Adds old new (report_text report)

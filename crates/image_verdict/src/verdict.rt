@@ -18,7 +18,8 @@ use imsm_codec::{MpbRef, check, is_first_form, is_whole_disk};
 
 /// The block in an anchor, if it is whole there.
 fn checked(anchor: &Sector) -> Option<MpbRef<'_>>
-    ensures some { IfSome result (λ mpb. (block_bytes mpb ≡ anchor_block anchor.now) × IsWholeBlock (block_bytes mpb) (block_of mpb)) }
+    ensures some { IfSome result (λ mpb.
+        (block_bytes mpb ≡ anchor_block anchor.now) × IsWholeBlock (block_bytes mpb) (block_of mpb)) }
     ensures none { IfNone result (IsWhole (anchor_block anchor.now) → ⊥) }
 {
     check(&anchor.0).ok()
@@ -78,7 +79,8 @@ fn has_image(images: &[ImageRead], serial: &Serial) -> bool
 /// Appends a serial of which no image is there.
 fn push_missing(missing: &mut ArrayVec<Serial, MAX_DISKS>, images: &[ImageRead], serial: Serial)
     requires { array_vec_len missing.old < MAX_DISKS }
-    ensures { missing.new.items ≡ (if is_there images.now serial.0 then missing.old.items else missing.old.items ++ serial ∷ []) }
+    ensures { missing.new.items
+        ≡ (if is_there images.now serial.0 then missing.old.items else missing.old.items ++ serial ∷ []) }
 {
     if !has_image(images, &serial) {
         missing.push(serial);

@@ -1,29 +1,24 @@
-use Rattle.std.proofs.Common.{◌≡◌, ℕ, List, Some, ◌∙◌, ◌∷◌, ◌++◌, [], refl, ap, subst, arith}
-use Rattle.std.specs.Prelude.{slice_get, slice_index}
+use Rattle.std.proofs.Common.{◌≡◌, ◌<◌, ◌+◌, ℕ, List, length, map, ◌∙◌, ◌∷◌, ◌++◌, [], ap, subst, sym, arith}
+use Rattle.std.specs.Prelude.{IfSome}
+use Rattle.imsm_base.specs.declared.units.Sector.{Sector}
 use Rattle.imsm_base.specs.declared.units.Serial.{Serial}
+use Rattle.image_outside.specs.Told.{bank_told}
 use Rattle.image_verdict.specs.declared.images.ImageRead.{ImageRead}
-use Rattle.image_verdict.specs.Images.{serials_of_all, sizes_of_all}
-use Rattle.std.proofs.lemmas.Grind.{common_steps}
-use Rattle.image_verdict.proofs.Reading.{are_read_next, reads_of, mapped_next, size_there}
+use Rattle.image_verdict.proofs.Reading.{AreFound, found_all, found_more, reads_of, still}
 use Rattle.image_verdict.proofs.images.read_images.Goals as goal
 
 pub loop-d-preserved : goal.loop-d-preserved
 loop-d-preserved g c =
     let B = g.B.Bank in
-    let before = c.loop-d.bank in
-    let after = c.read_image.new.bank in
+    let old = bank_told B c.loop-d.bank in
+    let new = bank_told B c.read_image.new.bank in
+    let below : c.loop-d.d < length old.sizes =
+    let inside = c.loop-d-test.true in let count = c.disks-count.ensures.count in let same = ap (λ (ns : List ℕ). length ns) c.loop-d.invariant.sizes in omega (arith, inside, count, same) in
     record {
-      read = are_read_next (B.serials c.args.bank.now) (B.serials before) (B.sizes c.args.bank.now) (B.sizes before) (B.opening before) (B.opening after) (B.log before) (B.log after)
-          c.loop-d.d c.loop-d.images.items c.push.new.self.items c.read_image.result c.loop-d.invariant.read c.loop-d.invariant.serials c.loop-d.invariant.sizes
-          c.read_image.ensures.opening c.read_image.ensures.logs c.read_image.ensures.gives c.read_image.ensures.small c.read_image.ensures.serial c.read_image.ensures.sectors
-          c.in_ok-push.ensures.items;
-      count = grind (arith, common_steps);
-      named = ap serials_of_all c.in_ok-push.ensures.items
-          ∙ mapped_next (λ (i : ImageRead). i.serial) (B.serials c.args.bank.now) c.loop-d.d c.loop-d.images.items c.read_image.result c.loop-d.invariant.named
-          (subst (λ (xs : List Serial). slice_get xs c.loop-d.d ≡ Some c.read_image.result.serial) c.loop-d.invariant.serials c.read_image.ensures.serial);
-      sized = ap sizes_of_all c.in_ok-push.ensures.items
-          ∙ mapped_next (λ (i : ImageRead). i.sectors) (B.sizes c.args.bank.now) c.loop-d.d c.loop-d.images.items c.read_image.result c.loop-d.invariant.sized
-          (size_there (B.sizes c.args.bank.now) c.loop-d.d c.read_image.result.sectors (let below = c.loop-d-test.true in let count = c.disks-count.ensures.count in omega (arith, below, count)) (c.read_image.ensures.sectors ∙ ap (λ (xs : List ℕ). slice_index xs c.loop-d.d) c.loop-d.invariant.sizes));
+      found = subst (λ (is : List ImageRead). AreFound new (c.loop-d.d + 1) is) (sym c.in_ok-push.ensures.items)
+          (found_more old new c.loop-d.d c.loop-d.images.items c.read_image.result c.loop-d.invariant.found below
+          c.read_image.ensures.serial c.read_image.ensures.sectors c.read_image.ensures.logs c.read_image.ensures.gives c.read_image.ensures.anchor
+          c.read_image.ensures.opening c.read_image.ensures.later c.read_image.ensures.sizes c.read_image.ensures.serials);
       opening = λ told is. c.loop-d.invariant.opening told (c.read_image.ensures.opening told is);
       later = λ k. let first = c.loop-d.invariant.later k in let second = c.read_image.ensures.later k in omega (arith, first, second);
       sizes = c.read_image.ensures.sizes ∙ c.loop-d.invariant.sizes;
@@ -33,9 +28,27 @@ loop-d-preserved g c =
 pub returns-in_err-push-clause-reads : goal.returns-in_err-push-clause-reads
 returns-in_err-push-clause-reads g c =
     let B = g.B.Bank in
-    let before = c.loop-d.bank in
-    let after = c.read_image.new.bank in
-    reads_of (B.serials c.args.bank.now) (B.sizes c.args.bank.now) (B.opening after) (B.log after) _ _
-    (are_read_next (B.serials c.args.bank.now) (B.serials before) (B.sizes c.args.bank.now) (B.sizes before) (B.opening before) (B.opening after) (B.log before) (B.log after)
-    c.loop-d.d c.loop-d.images.items (c.loop-d.images.items ++ c.read_image.result ∷ []) c.read_image.result c.loop-d.invariant.read c.loop-d.invariant.serials c.loop-d.invariant.sizes
-    c.read_image.ensures.opening c.read_image.ensures.logs c.read_image.ensures.gives c.read_image.ensures.small c.read_image.ensures.serial c.read_image.ensures.sectors refl)
+    let old = bank_told B c.loop-d.bank in
+    let new = bank_told B c.read_image.new.bank in
+    let below : c.loop-d.d < length old.sizes =
+    let inside = c.loop-d-test.true in let count = c.disks-count.ensures.count in let same = ap (λ (ns : List ℕ). length ns) c.loop-d.invariant.sizes in omega (arith, inside, count, same) in
+    reads_of new (c.loop-d.d + 1) (c.loop-d.images.items ++ c.read_image.result ∷ [])
+    (found_more old new c.loop-d.d c.loop-d.images.items c.read_image.result c.loop-d.invariant.found below
+    c.read_image.ensures.serial c.read_image.ensures.sectors c.read_image.ensures.logs c.read_image.ensures.gives c.read_image.ensures.anchor
+    c.read_image.ensures.opening c.read_image.ensures.later c.read_image.ensures.sizes c.read_image.ensures.serials)
+
+pub returns-clause-found : goal.returns-clause-found
+returns-clause-found g c =
+    let B = g.B.Bank in
+    let told = bank_told B c.loop-d.bank in
+    let count = c.disks-count.ensures in
+    let same : length told.sizes ≡ length (B.sizes c.args.bank.now) = ap (λ (ns : List ℕ). length ns) c.loop-d.invariant.sizes in
+    let named : length told.serials ≡ length (B.serials c.args.bank.now) = ap (λ (ss : List Serial). length ss) c.loop-d.invariant.serials in
+    let all : c.loop-d.d ≡ length told.sizes =
+    let past = c.loop-d-test.false in let end = c.loop-d.auto.d-end in let total = count.count in omega (arith, past, end, total, same) in
+    found_all told c.loop-d.d c.loop-d.images.items c.loop-d.invariant.found all (named ∙ count.named ∙ sym same)
+    (subst (λ (sizes : List ℕ). IfSome told.opening (λ contents. map (λ (disk : List Sector). length disk) contents ≡ sizes)) (sym c.loop-d.invariant.sizes)
+    (still _ (B.opening c.args.bank.now) told.opening c.loop-d.invariant.opening count.told))
+
+pub returns-clause-reads : goal.returns-clause-reads
+returns-clause-reads g c = reads_of (bank_told g.B.Bank c.loop-d.bank) c.loop-d.d c.loop-d.images.items c.loop-d.invariant.found

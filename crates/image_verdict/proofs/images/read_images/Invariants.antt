@@ -1,14 +1,12 @@
-use Rattle.std.proofs.Common.{◌≡◌, ℕ, ◌≤◌, length, take}
+use Rattle.std.proofs.Common.{◌≡◌, ℕ, ◌≤◌}
 use Rattle.member_bank.specs.Told.{Keeps}
-use Rattle.image_verdict.specs.Images.{AreRead, serials_of_all, sizes_of_all}
+use Rattle.image_outside.specs.Told.{bank_told}
+use Rattle.image_verdict.proofs.Reading.{AreFound}
 use Rattle.image_verdict.proofs.images.read_images.Given as goal
 
 abbrev pub invariant-loop-d : goal.invariant-loop-d
 invariant-loop-d g l = record {
-  read : AreRead (g.B.Bank.serials l.initial.bank) (g.B.Bank.sizes l.initial.bank) (g.B.Bank.opening l.bank) (g.B.Bank.log l.bank) l.d l.images.items;
-  count : length l.images.items ≡ l.d;
-  named : serials_of_all l.images.items ≡ take l.d (g.B.Bank.serials l.initial.bank);
-  sized : sizes_of_all l.images.items ≡ take l.d (g.B.Bank.sizes l.initial.bank);
+  found : AreFound (bank_told g.B.Bank l.bank) l.d l.images.items;
   opening : Keeps (g.B.Bank.opening l.initial.bank) (g.B.Bank.opening l.bank);
   later : (k : ℕ) → g.B.Bank.faults_of l.initial.bank k ≤ g.B.Bank.faults_of l.bank k;
   sizes : g.B.Bank.sizes l.bank ≡ g.B.Bank.sizes l.initial.bank;
