@@ -1,7 +1,6 @@
 -- The disks of a bank as a list, and that a container can be made over them.
 use Rattle.std.proofs.Common.{◌≡◌, ◌≢◌, ℕ, zero, suc, ◌+◌, ◌<◌, ◌≤◌, true, List, [], ◌∷◌, ◌++◌, All, length, map, take, slice_get, slice_index, get_or, Some, refl, sym, ◌∙◌, ap, subst, arith}
 use Rattle.std.specs.List.{AllByRecursion, AllPairs}
-use Rattle.std.proofs.lemmas.List.{take_all}
 use Rattle.std.proofs.lemmas.List.Elements.{All-from_recursion}
 use Rattle.imsm_base.specs.declared.bounds.TheConstants.{METADATA_SECTORS}
 use Rattle.imsm_base.specs.declared.units.Serial.{Serial}
@@ -26,11 +25,6 @@ pub one_more : (serials : List Serial) (sizes : List ℕ) (d : ℕ) (s : Serial)
 one_more serials sizes d s is inside =
     let next : d + 1 ≡ suc d = omega arith in
     ap (λ (n : ℕ). disks_of (take n serials) (take n sizes)) next ∙ one_more_of serials sizes d s is inside
-
-pub all_listed : (serials : List Serial) (sizes : List ℕ) → length serials ≡ length sizes → disks_of (take (length sizes) serials) (take (length sizes) sizes) ≡ disks_of serials sizes
-all_listed serials sizes same =
-    ap (λ l. disks_of l (take (length sizes) sizes)) (take_all (length sizes) serials (omega (arith, same)))
-    ∙ ap (disks_of serials) (take_all (length sizes) sizes (omega arith))
 
 -- TOGETHER
 

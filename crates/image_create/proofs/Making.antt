@@ -1,14 +1,14 @@
 -- Calls that are made one behind the other.
-use Rattle.std.proofs.Common.{ℕ, ◌≤◌, List, [], ◌∷◌, ◌++◌, Option, Result, Ok, Err, refl, sym, ◌∙◌, ap, subst, arith}
-use Rattle.std.specs.Prelude.{OnOk, OnErr, is_ok}
-use Rattle.std.proofs.lemmas.List.{append-nil, append_assoc}
+use Rattle.std.proofs.Common.{◌≡◌, ℕ, ◌≤◌, List, [], ◌∷◌, ◌++◌, Option, Result, Ok, Err, refl, sym, ◌∙◌, ap, subst, arith}
+use Rattle.std.specs.Prelude.{IfErr, IsErrAnd, OnOk, OnErr, is_ok}
+use Rattle.std.proofs.lemmas.List.{append_assoc}
 use Rattle.imsm_base.specs.declared.units.Sector.{Sector}
-use Rattle.imsm_base.specs.declared.units.Serial.{Serial}
 use Rattle.device_log.specs.Log.{Call, Sync}
-use Rattle.member_bank.specs.Faults.{Rose}
+use Rattle.member_bank.specs.History.{sectors_asked}
 use Rattle.member_bank.specs.Told.{Logs, LogsAll, LogsWrite}
+use Rattle.image_outside.specs.Told.{BankTold}
 use Rattle.image_create.specs.Calls.{write_call, sync_call}
-use Rattle.image_create.specs.Stops.{StopsAt, KeepsBank, failed_call}
+use Rattle.image_create.specs.Stops.{IsStopped, StopsAt, KeepsBank, failed_call}
 
 pub on_err : {T E : Type 0} (r : Result T E) (P : Type 0) → P → OnErr r P
 on_err (Ok x) P is = tt
@@ -22,8 +22,10 @@ pub on_err_map : {T E : Type 0} {P Q : Type 0} (r : Result T E) → OnErr r P �
 on_err_map (Ok x) is goes = tt
 on_err_map (Err e) is goes = goes is
 
-pub logs_none : (log : Option (List Call)) → LogsAll log log []
-logs_none log now told = (now, told, sym (append-nil now))
+-- the error that is handed on
+pub handed_on : {T E : Type 0} (r : Result T E) (met : E) (P : E → Type 0) → IsErrAnd r (λ e. e ≡ met) → P met → IfErr r P
+handed_on (Ok x) met P told is = absurd told
+handed_on (Err e) met P told is = subst P (sym told) is
 
 pub logs_both : {a b c : Option (List Call)} (xs ys : List Call) → LogsAll a b xs → LogsAll b c ys → LogsAll a c (xs ++ ys)
 logs_both xs ys first second now told =
@@ -33,42 +35,50 @@ logs_both xs ys first second now told =
 
 -- a stop behind calls that went through, and before calls that weren't made
 pub stops_behind : {a b c : Option (List Call)} {d : ℕ} (xs ys : List Call) → LogsAll a b xs → StopsAt b c ys d → StopsAt a c (xs ++ ys) d
-stops_behind {a} {b} {c} xs ys made stop = record {
-  front = xs ++ stop.front;
-  next = stop.next;
-  rest = stop.rest;
-  stored = stop.stored;
-  calls_are = ap (λ (x : List Call). xs ++ x) stop.calls_are ∙ sym (append_assoc xs stop.front (stop.next ∷ stop.rest));
-  disk = stop.disk;
-  few = stop.few;
-  logs = subst (LogsAll a c) (sym (append_assoc xs stop.front (failed_call stop.next stop.stored ∷ []))) (logs_both xs (stop.front ++ failed_call stop.next stop.stored ∷ []) made stop.logs);
+stops_behind xs ys made stop = record {
+  run = xs ++ stop.run;
+  stopped = record {
+    front = xs ++ stop.stopped.front;
+    next = stop.stopped.next;
+    rest = stop.stopped.rest;
+    stored = stop.stopped.stored;
+    calls_are = ap (λ (x : List Call). xs ++ x) stop.stopped.calls_are ∙ sym (append_assoc xs stop.stopped.front (stop.stopped.next ∷ stop.stopped.rest));
+    disk = stop.stopped.disk;
+    few = stop.stopped.few;
+    run_is = ap (λ (x : List Call). xs ++ x) stop.stopped.run_is ∙ sym (append_assoc xs stop.stopped.front (failed_call stop.stopped.next stop.stopped.stored ∷ []));
+  };
+  logs = logs_both xs stop.run made stop.logs;
 }
 
 pub stops_before : {a b : Option (List Call)} {d : ℕ} (xs ys : List Call) → StopsAt a b xs d → StopsAt a b (xs ++ ys) d
 stops_before xs ys stop = record {
-  front = stop.front;
-  next = stop.next;
-  rest = stop.rest ++ ys;
-  stored = stop.stored;
-  calls_are = ap (λ (x : List Call). x ++ ys) stop.calls_are ∙ append_assoc stop.front (stop.next ∷ stop.rest) ys;
-  disk = stop.disk;
-  few = stop.few;
+  run = stop.run;
+  stopped = record {
+    front = stop.stopped.front;
+    next = stop.stopped.next;
+    rest = stop.stopped.rest ++ ys;
+    stored = stop.stopped.stored;
+    calls_are = ap (λ (x : List Call). x ++ ys) stop.stopped.calls_are ∙ append_assoc stop.stopped.front (stop.stopped.next ∷ stop.stopped.rest) ys;
+    disk = stop.stopped.disk;
+    few = stop.stopped.few;
+    run_is = stop.stopped.run_is;
+  };
   logs = stop.logs;
 }
 
 -- ONE CALL
 
+-- a run of one call that failed
+first_stopped : (call : Call) (stored : ℕ) → stored ≤ sectors_asked call.what → IsStopped (call ∷ []) call.disk (failed_call call stored ∷ [])
+first_stopped call stored few =
+    record { front = []; next = call; rest = []; stored = stored; calls_are = refl; disk = refl; few = few; run_is = refl }
+
 pub write_stopped : {E : Type 0} (old new : Option (List Call)) (d place : ℕ) (sectors : List Sector) (r : Result (Unit {0}) E)
     → (stored : ℕ) × LogsWrite old new d place sectors (is_ok r) stored → OnErr r (StopsAt old new (write_call d place sectors ∷ []) d)
 write_stopped old new d place sectors (Ok x) made = tt
 write_stopped old new d place sectors (Err e) made = record {
-  front = [];
-  next = write_call d place sectors;
-  rest = [];
-  stored = made.0;
-  calls_are = refl;
-  disk = refl;
-  few = made.1.few;
+  run = failed_call (write_call d place sectors) made.0 ∷ [];
+  stopped = first_stopped (write_call d place sectors) made.0 made.1.few;
   logs = made.1.logs;
 }
 
@@ -76,30 +86,17 @@ pub sync_stopped : {E : Type 0} (old new : Option (List Call)) (d : ℕ) (r : Re
     → Logs old new (record { disk = d; what = Sync; went = is_ok r }) → OnErr r (StopsAt old new (sync_call d ∷ []) d)
 sync_stopped old new d (Ok x) made = tt
 sync_stopped old new d (Err e) made = record {
-  front = [];
-  next = sync_call d;
-  rest = [];
-  stored = 0;
-  calls_are = refl;
-  disk = refl;
-  few = omega arith;
+  run = failed_call (sync_call d) 0 ∷ [];
+  stopped = first_stopped (sync_call d) 0 (omega arith);
   logs = made;
 }
 
 -- WHAT IS KEPT
 
-pub rose_later : (a b c : ℕ) → a ≤ b → Rose b c → Rose a c
-rose_later a b c less rose = omega arith
-
-pub kept_same : {B : Type 0} (serials : B → List Serial) (sizes : B → List ℕ) (opening : B → Option (List (List Sector))) (faults : B → ℕ → ℕ) (b : B)
-    → KeepsBank serials sizes opening faults b b
-kept_same serials sizes opening faults b = record { named = refl; sized = refl; opened = λ told is. is; later = λ k. omega arith }
-
-pub kept_both : {B : Type 0} {serials : B → List Serial} {sizes : B → List ℕ} {opening : B → Option (List (List Sector))} {faults : B → ℕ → ℕ} {x y z : B}
-    → KeepsBank serials sizes opening faults x y → KeepsBank serials sizes opening faults y z → KeepsBank serials sizes opening faults x z
-kept_both {B} {serials} {sizes} {opening} {faults} {x} {y} {z} first second = record {
+pub kept_both : {x y z : BankTold} → KeepsBank x y → KeepsBank y z → KeepsBank x z
+kept_both {x} {y} {z} first second = record {
   named = second.named ∙ first.named;
   sized = second.sized ∙ first.sized;
   opened = λ told is. first.opened told (second.opened told is);
-  later = λ k. let one : faults x k ≤ faults y k = first.later k in let two : faults y k ≤ faults z k = second.later k in omega arith;
+  later = λ k. let one : x.faults k ≤ y.faults k = first.later k in let two : y.faults k ≤ z.faults k = second.later k in omega arith;
 }

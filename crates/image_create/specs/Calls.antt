@@ -60,4 +60,5 @@ calls_on calls sizes count = flat_map (λ d. calls d (slice_index sizes d)) (ran
 -- all calls: zeros on each disk, and then the block on each
 abbrev pub create_calls : List ℕ → ℕ → List ℕ → List Call
 create_calls sizes rows bytes =
-    calls_on (zero_calls rows) sizes (length sizes) ++ calls_on (block_calls (block_sectors bytes) (length bytes)) sizes (length sizes)
+    calls_on (zero_calls rows) sizes (length sizes)
+    ++ calls_on (block_calls (block_sectors bytes) (length bytes)) sizes (length sizes)

@@ -1,10 +1,9 @@
 -- Calls that are made in their order, up to the first that fails. Source: this project's own.
 use Rattle.std.specs.Prelude.{◌≡◌, ℕ, ◌≤◌, false, List, [], ◌∷◌, ◌++◌, Option}
-use Rattle.imsm_base.specs.declared.units.Sector.{Sector}
-use Rattle.imsm_base.specs.declared.units.Serial.{Serial}
 use Rattle.device_log.specs.Log.{Call, What, Read, Write, Sync}
 use Rattle.member_bank.specs.History.{sectors_asked}
 use Rattle.member_bank.specs.Told.{Keeps, LogsAll}
+use Rattle.image_outside.specs.Told.{BankTold}
 
 -- what was asked, of a write with so many sectors stored
 abbrev pub what_stored : What → ℕ → What
@@ -16,8 +15,8 @@ what_stored Sync stored = Sync
 abbrev pub failed_call : Call → ℕ → Call
 failed_call call stored = record { disk = call.disk; what = what_stored call.what stored; went = false }
 
--- the log has a front of these calls, and behind it the next of them, which failed, on this disk
-pub record StopsAt (old new : Option (List Call)) (calls : List Call) (d : ℕ) : Type 0 where
+-- a run is a front of these calls, and behind it the next of them, which failed, on this disk
+pub record IsStopped (calls : List Call) (d : ℕ) (run : List Call) : Type 0 where
   pub front : List Call
   pub next : Call
   pub rest : List Call
@@ -25,11 +24,17 @@ pub record StopsAt (old new : Option (List Call)) (calls : List Call) (d : ℕ) 
   pub calls_are : calls ≡ front ++ next ∷ rest
   pub disk : next.disk ≡ d
   pub few : stored ≤ sectors_asked next.what
-  pub logs : LogsAll old new (front ++ failed_call next stored ∷ [])
+  pub run_is : run ≡ front ++ failed_call next stored ∷ []
+
+-- a log that is told has such a run at its end
+pub record StopsAt (old new : Option (List Call)) (calls : List Call) (d : ℕ) : Type 0 where
+  pub run : List Call
+  pub stopped : IsStopped calls d run
+  pub logs : LogsAll old new run
 
 -- the disks and what is told of their opening stay, and no count of faults falls
-pub record KeepsBank {B : Type 0} (serials : B → List Serial) (sizes : B → List ℕ) (opening : B → Option (List (List Sector))) (faults : B → ℕ → ℕ) (old new : B) : Type 0 where
-  pub named : serials new ≡ serials old
-  pub sized : sizes new ≡ sizes old
-  pub opened : Keeps (opening old) (opening new)
-  pub later : (k : ℕ) → faults old k ≤ faults new k
+pub record KeepsBank (old new : BankTold) : Type 0 where
+  pub named : new.serials ≡ old.serials
+  pub sized : new.sizes ≡ old.sizes
+  pub opened : Keeps old.opening new.opening
+  pub later : (k : ℕ) → old.faults k ≤ new.faults k

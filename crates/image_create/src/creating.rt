@@ -1,13 +1,17 @@
 //! A container is made over the disks of a bank.
-ghost use Rattle.std.specs.Prelude.{◌≡◌, ◌<◌, ◌⊎◌, true, [], Some, IfErr, IfOk, IfSome, OnOk, length, slice_get, slice_index};
+ghost use Rattle.std.specs.Prelude.{◌≡◌, ℕ, ◌<◌, true, Some, IfErr, IfOk, OnOk, length, slice_get, slice_index};
 ghost use Rattle.imsm_base.specs.declared.units.Serial.{Serial};
 ghost use Rattle.imsm_base.specs.Layout.{family_of};
 ghost use Rattle.imsm_buffer.specs.Buffer.{parts_of};
 ghost use Rattle.member_bank.specs.Told.{Keeps};
 ghost use Rattle.new_container.specs.Fits.{container_fits};
 ghost use Rattle.image_outside.specs.Endings.{Ends, EndsIfMemory, Prints};
+ghost use Rattle.image_outside.specs.Shelves.{IsUncalled};
+ghost use Rattle.image_outside.specs.Told.{bank_told};
+ghost use Rattle.image_outside.specs.Views.{sink_told};
 ghost use Rattle.image_lines.specs.Lines.{failed_member_line};
-ghost use Rattle.image_create.specs.Creates.{CreatesBy, created_line, disks_of, small_line};
+ghost use Rattle.image_create.specs.Creates.{CreatesBy, created_line, disks_of, least_on, small_line};
+ghost use Rattle.image_create.specs.Room.{IsFirstBelow};
 
 use crate::laying::lay_down;
 use crate::room::first_small;
@@ -39,8 +43,8 @@ fn disks_of<B: Bank>(alloc: Global, bank: &B) -> Result<Vec<NewDisk>, AllocError
 fn end_small<B: Bank, K: Sink>(bank: &B, d: DiskNo, sink: &mut K) -> Status
     requires { d.0 < length (B.sizes bank.now) }
     ensures { (serial : Serial) × (slice_get (B.serials bank.now) d.0 ≡ Some serial)
-        × Ends (K.written sink.old) (K.written sink.new) (K.faults_of sink.old) (K.faults_of sink.new)
-        (Prints (small_line serial (slice_index (B.sizes bank.now) d.0)) 3 (K.written sink.old)) result.0 }
+        × Ends (sink_told K.Sink sink.old) (sink_told K.Sink sink.new)
+        (Prints (small_line serial (slice_index (B.sizes bank.now) d.0)) 3) result.0 }
 {
     let serial = bank.serial(d);
     let words = [
@@ -55,8 +59,8 @@ fn end_small<B: Bank, K: Sink>(bank: &B, d: DiskNo, sink: &mut K) -> Status
 fn end_failed<B: Bank, K: Sink>(bank: &B, d: DiskNo, sink: &mut K) -> Status
     requires { d.0 < length (B.sizes bank.now) }
     ensures { (serial : Serial) × (slice_get (B.serials bank.now) d.0 ≡ Some serial)
-        × Ends (K.written sink.old) (K.written sink.new) (K.faults_of sink.old) (K.faults_of sink.new)
-        (Prints (failed_member_line serial) 13 (K.written sink.old)) result.0 }
+        × Ends (sink_told K.Sink sink.old) (sink_told K.Sink sink.new)
+        (Prints (failed_member_line serial) 13) result.0 }
 {
     let serial = bank.serial(d);
     let words = [Word::Name(&serial.0)];
@@ -71,11 +75,11 @@ fn end_laid<B: Bank, K: Sink>(
     sink: &mut K,
 ) -> Status
     requires { IfErr laid (λ d. d.0 < length (B.sizes bank.now)) }
-    ensures created { OnOk laid (Ends (K.written sink.old) (K.written sink.new) (K.faults_of sink.old) (K.faults_of sink.new)
-        (Prints (created_line (family_of (parts_of block.now))) 0 (K.written sink.old)) result.0) }
+    ensures created { OnOk laid (Ends (sink_told K.Sink sink.old) (sink_told K.Sink sink.new)
+        (Prints (created_line (family_of (parts_of block.now))) 0) result.0) }
     ensures failed { IfErr laid (λ d. (serial : Serial) × (slice_get (B.serials bank.now) d.0 ≡ Some serial)
-        × Ends (K.written sink.old) (K.written sink.new) (K.faults_of sink.old) (K.faults_of sink.new)
-        (Prints (failed_member_line serial) 13 (K.written sink.old)) result.0) }
+        × Ends (sink_told K.Sink sink.old) (sink_told K.Sink sink.new)
+        (Prints (failed_member_line serial) 13) result.0) }
 {
     match laid {
         Ok(()) => {
@@ -86,27 +90,30 @@ fn end_laid<B: Bank, K: Sink>(
     }
 }
 
-/// Makes a container over all disks of a bank, and prints the number of its family. Zeros stand on the rows of every disk
-/// before the block stands on one.
+/// Makes a container over all disks of a bank, and prints the number of its family. Zeros stand on the rows of every
+/// disk before the block stands on one.
 ///
-/// The status is 0 where the container was made, 3 where a disk is too small for it, 6 where the line couldn't be written,
-/// 9 without memory, and 13 where a call on a disk failed.
+/// The status is 0 where the container was made, 3 where a disk is too small for it, 6 where the line couldn't be
+/// written, 9 without memory, and 13 where a call on a disk failed.
 pub fn create<B: Bank, K: Sink>(
     alloc: Global,
     bank: &mut B,
     made: &NewContainer,
     sink: &mut K,
 ) -> Status
-    requires fresh { IfSome (B.log bank.old) (λ l. l ≡ []) }
+    requires fresh { IsUncalled (bank_told B.Bank bank.old) }
+    requires sound { (d : ℕ) → d < length (B.serials bank.old) → B.faults_of bank.old d ≡ 0 }
     requires fits { container_fits made.now (length (B.serials bank.old)) ≡ true }
 
-    // How it ends, which calls are made, and what is printed. No call is made where a disk is too small, and else none but
-    // those of the container: all, or those up to the first that fails.
-    ensures ends { EndsIfMemory (K.written sink.old) (K.written sink.new) (K.faults_of sink.old) (K.faults_of sink.new)
-        (λ told status. CreatesBy B.serials B.sizes B.opening B.log B.faults_of made.now (K.written sink.old) told status bank.old bank.new) result.0 }
+    // How it ends, which calls are made, and what is printed. No call is made where a disk is too small, and else none
+    // but those of the container: all, or those up to the first that fails.
+    ensures ends { EndsIfMemory (sink_told K.Sink sink.old) (sink_told K.Sink sink.new)
+        (CreatesBy made.now (bank_told B.Bank bank.new)) result.0 }
 
-    // No call on a disk is made without memory.
+    // Without memory, or where a disk is too small, no disk is touched, whatever the bank tells.
     ensures untouched { result.0 ≡ 9 → bank.new ≡ bank.old }
+    ensures refused { (d : ℕ) → IsFirstBelow (least_on made.now (bank_told B.Bank bank.old)) (B.sizes bank.old) d
+        → bank.new ≡ bank.old }
     ensures opening { Keeps (B.opening bank.old) (B.opening bank.new) }
     ensures sizes { B.sizes bank.new ≡ B.sizes bank.old }
     ensures serials { B.serials bank.new ≡ B.serials bank.old }

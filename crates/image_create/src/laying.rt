@@ -4,6 +4,7 @@ ghost use Rattle.imsm_base.specs.declared.bounds.TheConstants.{HEADER_BYTES, MAX
 ghost use Rattle.member_bank.specs.Faults.{Rose};
 ghost use Rattle.member_bank.specs.Told.{Keeps, LogsAll};
 ghost use Rattle.mpb_store.specs.Sectors.{block_sectors};
+ghost use Rattle.image_outside.specs.Told.{bank_told};
 ghost use Rattle.image_create.specs.Calls.{block_calls, calls_on, create_calls, row_calls, step_calls, sync_call, write_call, zero_calls, zero_sectors};
 ghost use Rattle.image_create.specs.Laid.{LaysDown};
 ghost use Rattle.image_create.specs.Steps.{IsPlaced};
@@ -32,7 +33,7 @@ fn write<B: Bank>(bank: &mut B, d: DiskNo, place: u64, sectors: &[Sector]) -> Re
     ensures ok { OnOk result (LogsAll (B.log bank.old) (B.log bank.new) (write_call d.0 place sectors.now ∷ [])) }
     ensures err { OnErr result (StopsAt (B.log bank.old) (B.log bank.new) (write_call d.0 place sectors.now ∷ []) d.0) }
     ensures cause { OnErr result (Rose (B.faults_of bank.old d.0) (B.faults_of bank.new d.0)) }
-    ensures kept { KeepsBank B.serials B.sizes B.opening B.faults_of bank.old bank.new }
+    ensures kept { KeepsBank (bank_told B.Bank bank.old) (bank_told B.Bank bank.new) }
 {
     bank.write(d, place, sectors)
 }
@@ -43,7 +44,7 @@ fn sync<B: Bank>(bank: &mut B, d: DiskNo) -> Result<(), Failed>
     ensures ok { OnOk result (LogsAll (B.log bank.old) (B.log bank.new) (sync_call d.0 ∷ [])) }
     ensures err { OnErr result (StopsAt (B.log bank.old) (B.log bank.new) (sync_call d.0 ∷ []) d.0) }
     ensures cause { OnErr result (Rose (B.faults_of bank.old d.0) (B.faults_of bank.new d.0)) }
-    ensures kept { KeepsBank B.serials B.sizes B.opening B.faults_of bank.old bank.new }
+    ensures kept { KeepsBank (bank_told B.Bank bank.old) (bank_told B.Bank bank.new) }
 {
     bank.sync(d)
 }
@@ -55,7 +56,7 @@ fn zero_rows<B: Bank>(bank: &mut B, d: DiskNo, rows: u64) -> Result<(), Failed>
     ensures ok { OnOk result (LogsAll (B.log bank.old) (B.log bank.new) (row_calls d.0 rows)) }
     ensures err { OnErr result (StopsAt (B.log bank.old) (B.log bank.new) (row_calls d.0 rows) d.0) }
     ensures cause { OnErr result (Rose (B.faults_of bank.old d.0) (B.faults_of bank.new d.0)) }
-    ensures kept { KeepsBank B.serials B.sizes B.opening B.faults_of bank.old bank.new }
+    ensures kept { KeepsBank (bank_told B.Bank bank.old) (bank_told B.Bank bank.new) }
 {
     let most = MAX_WRITE_SECTORS as u64;
     let zeros = zeros();
@@ -71,10 +72,12 @@ fn zero_rows<B: Bank>(bank: &mut B, d: DiskNo, rows: u64) -> Result<(), Failed>
 fn zero_disk<B: Bank>(bank: &mut B, d: DiskNo, rows: u64) -> Result<(), Failed>
     requires disk { d.0 < length (B.sizes bank.old) }
     requires room { rows + METADATA_SECTORS ≤ slice_index (B.sizes bank.old) d.0 }
-    ensures ok { OnOk result (LogsAll (B.log bank.old) (B.log bank.new) (zero_calls rows d.0 (slice_index (B.sizes bank.old) d.0))) }
-    ensures err { OnErr result (StopsAt (B.log bank.old) (B.log bank.new) (zero_calls rows d.0 (slice_index (B.sizes bank.old) d.0)) d.0) }
+    ensures ok { OnOk result (LogsAll (B.log bank.old) (B.log bank.new)
+        (zero_calls rows d.0 (slice_index (B.sizes bank.old) d.0))) }
+    ensures err { OnErr result (StopsAt (B.log bank.old) (B.log bank.new)
+        (zero_calls rows d.0 (slice_index (B.sizes bank.old) d.0)) d.0) }
     ensures cause { OnErr result (Rose (B.faults_of bank.old d.0) (B.faults_of bank.new d.0)) }
-    ensures kept { KeepsBank B.serials B.sizes B.opening B.faults_of bank.old bank.new }
+    ensures kept { KeepsBank (bank_told B.Bank bank.old) (bank_told B.Bank bank.new) }
 {
     zero_rows(bank, d, rows)?;
     let anchor = bank.sectors(d) - 2;
@@ -90,7 +93,7 @@ fn take_step<B: Bank>(bank: &mut B, d: DiskNo, sectors: &[Sector], step: Step) -
     ensures ok { OnOk result (LogsAll (B.log bank.old) (B.log bank.new) (step_calls d.0 sectors.now step)) }
     ensures err { OnErr result (StopsAt (B.log bank.old) (B.log bank.new) (step_calls d.0 sectors.now step) d.0) }
     ensures cause { OnErr result (Rose (B.faults_of bank.old d.0) (B.faults_of bank.new d.0)) }
-    ensures kept { KeepsBank B.serials B.sizes B.opening B.faults_of bank.old bank.new }
+    ensures kept { KeepsBank (bank_told B.Bank bank.old) (bank_told B.Bank bank.new) }
 {
     match step {
         Step::Extended(place, count) => {
@@ -114,10 +117,12 @@ fn write_block<B: Bank>(
     requires all { length sectors.now ≡ MOST }
     requires least { HEADER_BYTES ≤ size }
     requires most { size ≤ MAX_BLOCK_BYTES }
-    ensures ok { OnOk result (LogsAll (B.log bank.old) (B.log bank.new) (block_calls sectors.now size d.0 (slice_index (B.sizes bank.old) d.0))) }
-    ensures err { OnErr result (StopsAt (B.log bank.old) (B.log bank.new) (block_calls sectors.now size d.0 (slice_index (B.sizes bank.old) d.0)) d.0) }
+    ensures ok { OnOk result (LogsAll (B.log bank.old) (B.log bank.new)
+        (block_calls sectors.now size d.0 (slice_index (B.sizes bank.old) d.0))) }
+    ensures err { OnErr result (StopsAt (B.log bank.old) (B.log bank.new)
+        (block_calls sectors.now size d.0 (slice_index (B.sizes bank.old) d.0)) d.0) }
     ensures cause { OnErr result (Rose (B.faults_of bank.old d.0) (B.faults_of bank.new d.0)) }
-    ensures kept { KeepsBank B.serials B.sizes B.opening B.faults_of bank.old bank.new }
+    ensures kept { KeepsBank (bank_told B.Bank bank.old) (bank_told B.Bank bank.new) }
 {
     let mut steps = WriteSteps::new(size, bank.sectors(d));
     loop {
@@ -131,11 +136,13 @@ fn write_block<B: Bank>(
 /// Writes zeros to all disks, in the order of their numbers. A failed call names its disk.
 fn zero_disks<B: Bank>(bank: &mut B, rows: u64) -> Result<(), DiskNo>
     requires room { All (λ n. rows + METADATA_SECTORS ≤ n) (B.sizes bank.old) }
-    ensures ok { OnOk result (LogsAll (B.log bank.old) (B.log bank.new) (calls_on (zero_calls rows) (B.sizes bank.old) (length (B.sizes bank.old)))) }
-    ensures err { IfErr result (λ d. StopsAt (B.log bank.old) (B.log bank.new) (calls_on (zero_calls rows) (B.sizes bank.old) (length (B.sizes bank.old))) d.0) }
+    ensures ok { OnOk result (LogsAll (B.log bank.old) (B.log bank.new)
+        (calls_on (zero_calls rows) (B.sizes bank.old) (length (B.sizes bank.old)))) }
+    ensures err { IfErr result (λ d. StopsAt (B.log bank.old) (B.log bank.new)
+        (calls_on (zero_calls rows) (B.sizes bank.old) (length (B.sizes bank.old))) d.0) }
     ensures member { IfErr result (λ d. d.0 < length (B.sizes bank.old)) }
     ensures cause { IfErr result (λ d. Rose (B.faults_of bank.old d.0) (B.faults_of bank.new d.0)) }
-    ensures kept { KeepsBank B.serials B.sizes B.opening B.faults_of bank.old bank.new }
+    ensures kept { KeepsBank (bank_told B.Bank bank.old) (bank_told B.Bank bank.new) }
 {
     for d in 0..bank.disks() {
         let disk = DiskNo(d);
@@ -152,11 +159,13 @@ fn write_blocks<B: Bank>(bank: &mut B, sectors: &[Sector], size: u16) -> Result<
     requires all { length sectors.now ≡ MOST }
     requires least { HEADER_BYTES ≤ size }
     requires most { size ≤ MAX_BLOCK_BYTES }
-    ensures ok { OnOk result (LogsAll (B.log bank.old) (B.log bank.new) (calls_on (block_calls sectors.now size) (B.sizes bank.old) (length (B.sizes bank.old)))) }
-    ensures err { IfErr result (λ d. StopsAt (B.log bank.old) (B.log bank.new) (calls_on (block_calls sectors.now size) (B.sizes bank.old) (length (B.sizes bank.old))) d.0) }
+    ensures ok { OnOk result (LogsAll (B.log bank.old) (B.log bank.new)
+        (calls_on (block_calls sectors.now size) (B.sizes bank.old) (length (B.sizes bank.old)))) }
+    ensures err { IfErr result (λ d. StopsAt (B.log bank.old) (B.log bank.new)
+        (calls_on (block_calls sectors.now size) (B.sizes bank.old) (length (B.sizes bank.old))) d.0) }
     ensures member { IfErr result (λ d. d.0 < length (B.sizes bank.old)) }
     ensures cause { IfErr result (λ d. Rose (B.faults_of bank.old d.0) (B.faults_of bank.new d.0)) }
-    ensures kept { KeepsBank B.serials B.sizes B.opening B.faults_of bank.old bank.new }
+    ensures kept { KeepsBank (bank_told B.Bank bank.old) (bank_told B.Bank bank.new) }
 {
     for d in 0..bank.disks() {
         let disk = DiskNo(d);
@@ -186,16 +195,19 @@ fn block_sectors_of(block: &MpbBuf) -> [Sector; MAX_WRITE_SECTORS]
 }
 
 /// Lays a block down on all disks of a bank, whose rows are sectors 0 to `rows`: on every disk zeros at the rows and
-/// where the anchor is to stand, and only then the block on every disk. Each disk is synced behind its zeros, and behind
-/// its block. After the first call that fails no other is made, and its disk is the error. Takes no memory.
-pub fn lay_down<B: Bank>(bank: &mut B, rows: u64, block: &MpbBuf) -> Result<(), DiskNo>
+/// where the anchor is to stand, and only then the block on every disk. Each disk is synced behind its zeros, and
+/// behind its block. After the first call that fails no other is made, and its disk is the error. Takes no memory.
+pub(crate) fn lay_down<B: Bank>(bank: &mut B, rows: u64, block: &MpbBuf) -> Result<(), DiskNo>
     requires { All (λ n. rows + METADATA_SECTORS ≤ n) (B.sizes bank.old) }
-    ensures ok { OnOk result (LogsAll (B.log bank.old) (B.log bank.new) (create_calls (B.sizes bank.old) rows block.now.bytes)) }
-    ensures err { IfErr result (λ d. StopsAt (B.log bank.old) (B.log bank.new) (create_calls (B.sizes bank.old) rows block.now.bytes) d.0) }
+    ensures ok { OnOk result (LogsAll (B.log bank.old) (B.log bank.new)
+        (create_calls (B.sizes bank.old) rows block.now.bytes)) }
+    ensures err { IfErr result (λ d. StopsAt (B.log bank.old) (B.log bank.new)
+        (create_calls (B.sizes bank.old) rows block.now.bytes) d.0) }
     ensures member { IfErr result (λ d. d.0 < length (B.sizes bank.old)) }
     ensures cause { IfErr result (λ d. Rose (B.faults_of bank.old d.0) (B.faults_of bank.new d.0)) }
     // What stands on the disks, where the bank tells it.
-    ensures laid { OnOk result (LaysDown (B.sizes bank.old) rows block.now.bytes (B.opening bank.new) (B.log bank.old) (B.log bank.new)) }
+    ensures laid { OnOk result (LaysDown (B.sizes bank.old) rows block.now.bytes
+        (B.opening bank.new) (B.log bank.old) (B.log bank.new)) }
     ensures later { (k : ℕ) → B.faults_of bank.old k ≤ B.faults_of bank.new k }
     ensures opening { Keeps (B.opening bank.old) (B.opening bank.new) }
     ensures sizes { B.sizes bank.new ≡ B.sizes bank.old }

@@ -4,9 +4,5 @@
 mod creating;
 mod laying;
 mod room;
-#[cfg(test)]
-mod tests;
 
 pub use creating::create;
-pub use laying::lay_down;
-pub use room::first_small;

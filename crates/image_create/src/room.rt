@@ -14,8 +14,9 @@ fn has_room(sectors: u64, rows: u64) -> bool
 }
 
 /// The first disk, in the order of their numbers, that has fewer than `rows` and 18 sectors. No call on a disk is made.
-pub fn first_small<B: Bank>(bank: &B, rows: u64) -> Option<DiskNo>
-    ensures { MatchOption result (All (λ n. rows + METADATA ≤ n) (B.sizes bank.now)) (λ d. IsFirstBelow (rows + METADATA) (B.sizes bank.now) d.0) }
+pub(crate) fn first_small<B: Bank>(bank: &B, rows: u64) -> Option<DiskNo>
+    ensures { MatchOption result (All (λ n. rows + METADATA ≤ n) (B.sizes bank.now))
+        (λ d. IsFirstBelow (rows + METADATA) (B.sizes bank.now) d.0) }
 {
     for d in 0..bank.disks() {
         let disk = DiskNo(d);

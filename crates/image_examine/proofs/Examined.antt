@@ -2,24 +2,28 @@
 use Rattle.std.proofs.Common.{◌≡◌, ℕ, Bool, List, [], ◌∷◌, ◌++◌, length, Option, Some, None, refl, sym, ◌∙◌, ap, subst, arith}
 use Rattle.std.specs.Prelude.{IfSome}
 use Rattle.std.specs.List.{AllByRecursion}
-use Rattle.imsm_base.specs.declared.units.Serial.{Serial}
+use Rattle.imsm_base.specs.declared.units.Sector.{Sector}
+use Rattle.imsm_base.specs.Whole.{anchor_place}
 use Rattle.device_log.specs.Log.{Call, What, Read, Write, Sync}
-use Rattle.mpb_store.specs.Banks.{IsRead as IsDiskRead, IsReadOf, LogsReads, has_failed}
+use Rattle.mpb_store.specs.Banks.{AreRead, IsRead as IsDiskRead, IsReadOf, LogsLook, LogsReads, has_failed, places_read, sector_after}
 use Rattle.image_outside.specs.Outside.{IsRead, OnlyReads}
+use Rattle.image_examine.specs.Endings.{IsLook}
 
 pub if_told : {A : Type 0} (o : Option A) (P : A → Type 0) → ((x : A) → o ≡ Some x → P x) → IfSome o P
 if_told None P holds = tt
 if_told (Some x) P holds = holds x refl
 
--- the serial of a bank's one disk
-pub one_serial : (serials : List Serial) → length serials ≡ 1 → (own : Serial) × (serials ≡ own ∷ [])
-one_serial [] one = cc
-one_serial (own ∷ []) one = (own, refl)
-one_serial (own ∷ other ∷ more) one = absurd (omega arith)
+-- the one element of a list
+pub one_of : {A : Type 0} (xs : List A) → length xs ≡ 1 → (x : A) × (xs ≡ x ∷ [])
+one_of [] one = cc
+one_of (x ∷ []) one = (x, refl)
+one_of (x ∷ y ∷ more) one = absurd (omega arith)
 
 -- a log that was empty has the reads alone
-is_empty : (old : Option (List Call)) (before : List Call) → IfSome old (λ l. l ≡ []) → old ≡ Some before → before ≡ []
-is_empty old before fresh is = subst (λ (o : Option (List Call)). IfSome o (λ l. l ≡ [])) is fresh
+all_new : (old : Option (List Call)) (before reads now : List Call) → IfSome old (λ l. l ≡ []) → old ≡ Some before → now ≡ before ++ reads → reads ≡ now
+all_new old before reads now fresh was is =
+    let empty : before ≡ [] = subst (λ (o : Option (List Call)). IfSome o (λ l. l ≡ [])) was fresh in
+    sym (is ∙ ap (λ (b : List Call). b ++ reads) empty)
 
 pub record Reads (d : ℕ) (failed : Bool) (log : List Call) : Type 0 where
   pub each : AllByRecursion (IsReadOf d) log
@@ -28,8 +32,17 @@ pub record Reads (d : ℕ) (failed : Bool) (log : List Call) : Type 0 where
 pub reads_alone : (old new : Option (List Call)) (d : ℕ) (failed : Bool) → IfSome old (λ l. l ≡ []) → LogsReads old new d failed → (now : List Call) → new ≡ Some now → Reads d failed now
 reads_alone old new d failed fresh logs now told =
     let (before, reads, was, is, each, outcome) = logs now told in
-    let same : now ≡ reads = is ∙ ap (λ (b : List Call). b ++ reads) (is_empty old before fresh was) in
-    subst (Reads d failed) (sym same) (record { each = each; outcome = outcome })
+    subst (Reads d failed) (all_new old before reads now fresh was is) (record { each = each; outcome = outcome })
+
+pub look_alone : (n : ℕ) (opening : Option (List (List Sector))) (old new : Option (List Call)) (failed : Bool) → IfSome old (λ l. l ≡ []) → LogsLook n 0 opening old new failed
+    → (now : List Call) → new ≡ Some now → IsLook n opening failed now
+look_alone n opening old new failed fresh logs now told =
+    let (before, reads, anchor, was, is, each, stands) = logs now told in
+    record {
+      anchor = anchor;
+      reads = subst (AreRead 0 (places_read n anchor) failed) (all_new old before reads now fresh was is) each;
+      stands = if_told opening (λ o. anchor ≡ (sector_after o now 0 (anchor_place n)).0) stands;
+    }
 
 is_read : (what : What) → IsDiskRead what → IsRead what
 is_read (Read place) read = tt

@@ -1,8 +1,10 @@
 //! What is found on a disk is printed.
-ghost use Rattle.std.specs.Prelude.{◌≡◌, ◌≤◌, ℕ, [], length, IfSome};
+ghost use Rattle.std.specs.Prelude.{◌≡◌, ◌<◌, ◌≤◌, ℕ, length};
 ghost use Rattle.member_bank.specs.Told.{Keeps};
-ghost use Rattle.image_outside.specs.Outside.{HasOnlyReads};
 ghost use Rattle.image_outside.specs.Endings.{EndsIfMemory, Prints};
+ghost use Rattle.image_outside.specs.Shelves.{HasOnlyReads, IsUncalled};
+ghost use Rattle.image_outside.specs.Told.{bank_told};
+ghost use Rattle.image_outside.specs.Views.{sink_told};
 ghost use Rattle.image_examine.specs.Text.{found_status as status_of, found_text as text_of};
 ghost use Rattle.image_examine.specs.Endings.{Examines};
 
@@ -19,8 +21,8 @@ const MAX_BLOCK_SECTORS: u8 = 16;
 
 /// Prints what was found, where the block is this one if one was. All memory is taken before a line is written.
 fn print_found<K: Sink>(alloc: Global, found: Found, block: &MpbBuf, sink: &mut K) -> Status
-    ensures { EndsIfMemory (K.written sink.old) (K.written sink.new) (K.faults_of sink.old) (K.faults_of sink.new)
-        (Prints (text_of found block.now.bytes) (status_of found) (K.written sink.old)) result.0 }
+    ensures { EndsIfMemory (sink_told K.Sink sink.old) (sink_told K.Sink sink.new)
+        (Prints (text_of found block.now.bytes) (status_of found)) result.0 }
 {
     match found_text(alloc, found, block) {
         Ok(text) => end(sink, text.as_slice(), found_status(found)),
@@ -31,11 +33,12 @@ fn print_found<K: Sink>(alloc: Global, found: Found, block: &MpbBuf, sink: &mut 
 /// Looks for the metadata block of the one disk of a bank, and prints what it says, or what is found in its place. All
 /// memory is taken before a line is written.
 pub fn examine<B: Bank, K: Sink>(alloc: Global, bank: &mut B, sink: &mut K) -> Status
-    requires fresh { IfSome (B.log bank.old) (λ l. l ≡ []) }
+    requires fresh { IsUncalled (bank_told B.Bank bank.old) }
+    requires sound { (d : ℕ) → d < length (B.serials bank.old) → B.faults_of bank.old d ≡ 0 }
     requires one { length (B.serials bank.old) ≡ 1 }
-    ensures reads { HasOnlyReads B.log bank.new }
-    ensures ends { EndsIfMemory (K.written sink.old) (K.written sink.new) (K.faults_of sink.old) (K.faults_of sink.new)
-        (λ told status. Examines B.serials B.sizes B.opening B.log B.faults_of (K.written sink.old) told status bank.old bank.new) result.0 }
+    ensures reads { HasOnlyReads (bank_told B.Bank bank.new) }
+    ensures ends { EndsIfMemory (sink_told K.Sink sink.old) (sink_told K.Sink sink.new)
+        (Examines (bank_told B.Bank bank.new)) result.0 }
     ensures opening { Keeps (B.opening bank.old) (B.opening bank.new) }
     ensures later { (k : ℕ) → B.faults_of bank.old k ≤ B.faults_of bank.new k }
     ensures sizes { B.sizes bank.new ≡ B.sizes bank.old }

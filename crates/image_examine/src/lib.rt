@@ -2,8 +2,6 @@
 #![tactic(auto)]
 
 mod examining;
-#[cfg(test)]
-mod tests;
 mod text;
 
 pub use examining::examine;

@@ -21,7 +21,8 @@ fn push_one(out: &mut Vec<u8>, kind: &[u8], number: u64) -> Result<(), AllocErro
 
 /// Appends the line of a fault that has two numbers.
 fn push_two(out: &mut Vec<u8>, kind: &[u8], first: u64, second: u64) -> Result<(), AllocError>
-    ensures { OnOk result (out.new.items ≡ out.old.items ++ line (codes "torn") (kind.now ∷ decimal first ∷ decimal second ∷ [])) }
+    ensures { OnOk result (out.new.items
+        ≡ out.old.items ++ line (codes "torn") (kind.now ∷ decimal first ∷ decimal second ∷ [])) }
 {
     let words = [Word::Plain(kind), Word::Number(first), Word::Number(second)];
     push_line(out, b"torn", &words)
@@ -29,7 +30,8 @@ fn push_two(out: &mut Vec<u8>, kind: &[u8], first: u64, second: u64) -> Result<(
 
 /// Appends the line of a block whose checksum isn't its sum.
 fn push_checksum(out: &mut Vec<u8>, kept: u32, summed: u32) -> Result<(), AllocError>
-    ensures { OnOk result (out.new.items ≡ out.old.items ++ line (codes "torn") (block_words (MpbFault.Checksum kept summed))) }
+    ensures { OnOk result (out.new.items
+        ≡ out.old.items ++ line (codes "torn") (block_words (MpbFault.Checksum kept summed))) }
 {
     let words = [Word::Plain(b"checksum"), Word::Hex(kept), Word::Hex(summed)];
     push_line(out, b"torn", &words)

@@ -8,7 +8,7 @@ use Rattle.mpb_store.specs.Sectors.{block_sectors}
 use Rattle.image_create.specs.Calls.{block_calls, calls_on, create_calls, zero_calls}
 use Rattle.image_create.specs.Stops.{StopsAt}
 use Rattle.image_create.proofs.Law.{lays_down}
-use Rattle.image_create.proofs.Making.{logs_both, on_ok_map, stops_behind}
+use Rattle.image_create.proofs.Making.{handed_on, logs_both, on_ok_map, stops_before, stops_behind}
 use Rattle.image_create.proofs.laying.lay_down.Goals as goal
 
 -- the calls of the block by what the code holds
@@ -52,3 +52,10 @@ returns-clause-laid g c =
     (let most = c.size_of.ensures.most in let size = c.size_of.ensures.size in omega arith)
     (created sizes (g.B.Bank.sizes c.zero_disks.new.bank) c.args.rows c.args.block.now.bytes c.block_sectors_of.result c.size_of.result
     c.zero_disks.ensures.kept.sized c.block_sectors_of.ensures.sectors c.size_of.ensures.size c.in_ok-zero_disks.ensures.ok block))
+
+pub returns-in_err-zero_disks-clause-err : goal.returns-in_err-zero_disks-clause-err
+returns-in_err-zero_disks-clause-err g c =
+    let sizes = g.B.Bank.sizes c.args.bank.now in
+    let bytes = c.args.block.now.bytes in
+    handed_on c.from_residual.result c.in_err-zero_disks.field-0.0 (λ d. StopsAt (g.B.Bank.log c.args.bank.now) (g.B.Bank.log c.zero_disks.new.bank) (create_calls sizes c.args.rows bytes) d.0) c.from_residual.ensures.1
+    (stops_before (calls_on (zero_calls c.args.rows) sizes (length sizes)) (calls_on (block_calls (block_sectors bytes) (length bytes)) sizes (length sizes)) c.in_err-zero_disks.ensures.err)

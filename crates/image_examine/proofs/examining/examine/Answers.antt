@@ -1,15 +1,18 @@
-use Rattle.std.proofs.Common.{◌≡◌, ℕ, List, Option, Some, sym, ◌∙◌, ap, subst}
+use Rattle.std.proofs.Common.{◌≡◌, ℕ, List, Some, sym, ◌∙◌, ap, subst, arith}
 use Rattle.std.specs.Prelude.{IfSome, slice_get, slice_index}
 use Rattle.imsm_base.specs.declared.units.Serial.{Serial}
 use Rattle.imsm_base.specs.Parts.{block_in}
 use Rattle.imsm_base.specs.Whole.{IsWholeDisk}
-use Rattle.mpb_store.specs.Banks.{IsAnswerOn, has_failed, is_unread, sector_after}
+use Rattle.member_bank.specs.Faults.{Rose}
+use Rattle.mpb_store.specs.Banks.{IsAnswerOn, LogsLook, has_failed, is_unread, sector_after}
 use Rattle.image_outside.specs.Outside.{OnlyReads}
 use Rattle.image_outside.specs.Endings.{Prints}
+use Rattle.image_outside.specs.Told.{bank_told}
+use Rattle.image_outside.specs.Views.{sink_told}
 use Rattle.image_outside.proofs.Ended.{ends_map}
 use Rattle.image_examine.specs.Text.{found_status, found_text}
-use Rattle.image_examine.specs.Endings.{Examines}
-use Rattle.image_examine.proofs.Examined.{if_told, one_serial, reads_alone, only_reads}
+use Rattle.image_examine.specs.Endings.{Examines, IsLook}
+use Rattle.image_examine.proofs.Examined.{if_told, look_alone, one_of, only_reads, reads_alone}
 use Rattle.image_examine.proofs.examining.examine.Goals as goal
 
 pub returns-clause-reads : goal.returns-clause-reads
@@ -21,31 +24,33 @@ returns-clause-reads g c =
 pub returns-clause-ends : goal.returns-clause-ends
 returns-clause-ends g c =
     let B = g.B.Bank in
-    let K = g.K.Sink in
-    let log = B.log in
+    let before = bank_told B c.args.bank.now in
+    let bank = bank_told B c.found-found.new.bank in
     let found = c.found-found.result in
     let block = c.found-found.new.into.bytes in
-    let now = c.found-found.new.bank in
-    let one = one_serial (B.serials c.args.bank.now) c.requires.one in
+    let one = one_of before.serials c.requires.one in
     let own : Serial = one.0 in
-    let at : slice_get (B.serials c.args.bank.now) 0 ≡ Some own = ap (λ (s : List Serial). slice_get s 0) one.1 in
-    let sized = sym c.found-found.ensures.sizes in
-    let old = K.written c.args.sink.now in
-    let outcome : Option (List ℕ) → ℕ → Type 0 = λ told status. Examines B.serials B.sizes B.opening B.log B.faults_of old told status c.args.bank.now now in
-    ends_map old (K.written c.print_found.new.sink) (K.faults_of c.args.sink.now) (K.faults_of c.print_found.new.sink) (Prints (found_text found block) (found_status found) old) outcome c.print_found.result.0
-    (λ full status printed. record {
+    let at : slice_get before.serials 0 ≡ Some own = ap (λ (s : List Serial). slice_get s 0) one.1 in
+    let only = one_of before.sizes (sym c.disks-count.ensures.named ∙ c.requires.one) in
+    let n : ℕ = only.0 in
+    let sized : slice_index before.sizes 0 ≡ n = ap (λ (s : List ℕ). slice_index s 0) only.1 in
+    ends_map (sink_told g.K.Sink c.args.sink.now) (sink_told g.K.Sink c.print_found.new.sink) (Prints (found_text found block) (found_status found)) (Examines bank) c.print_found.result.0
+    (λ lines status printed. record {
       own = own;
       named = c.found-found.ensures.serials ∙ one.1;
+      sectors = n;
+      sized = c.found-found.ensures.sizes ∙ only.1;
       found = found;
       block = block;
-      told = subst (λ (sizes : List ℕ). IfSome (B.opening now) (λ o. IfSome (log now) (λ l. IsAnswerOn own.0 (slice_index sizes 0) (sector_after o l 0) found block))) sized
-          (c.found-found.ensures.told own at);
-      whole = λ is. subst (λ (sizes : List ℕ). IsWholeDisk own.0 (slice_index sizes 0) block (block_in block)) sized (c.found-found.ensures.whole own at is);
+      told = subst (λ (s : ℕ). IfSome bank.opening (λ o. IfSome bank.log (λ l. IsAnswerOn own.0 s (sector_after o l 0) found block))) sized (c.found-found.ensures.told own at);
+      whole = λ is. subst (λ (s : ℕ). IsWholeDisk own.0 s block (block_in block)) sized (c.found-found.ensures.whole own at is);
       behind = c.found-found.ensures.behind;
-      unread = c.found-found.ensures.unread;
-      failed = if_told (log now) (λ l. has_failed l ≡ is_unread found)
-          (λ l is. (reads_alone (log c.args.bank.now) (log now) 0 (is_unread found) c.requires.fresh c.found-found.ensures.reads l is).outcome);
-      status_is = printed.0;
-      lines = printed.1;
+      reads = if_told bank.log (IsLook n bank.opening (is_unread found))
+          (look_alone n bank.opening before.log bank.log (is_unread found) c.requires.fresh
+          (subst (λ (s : ℕ). LogsLook s 0 bank.opening before.log bank.log (is_unread found)) sized c.found-found.ensures.places));
+      failed = if_told bank.log (λ l. has_failed l ≡ is_unread found) (λ l is. (reads_alone before.log bank.log 0 (is_unread found) c.requires.fresh c.found-found.ensures.reads l is).outcome);
+      unread = λ is. subst (λ (k : ℕ). Rose k (bank.faults 0)) (c.requires.sound 0 (let one = c.requires.one in omega arith)) (c.found-found.ensures.unread is);
+      status_is = printed.status_is;
+      lines_are = printed.lines_are;
     })
     c.print_found.ensures
