@@ -1,27 +1,29 @@
 -- One more image is opened: its serial is a new one.
-use Rattle.std.proofs.Common.{◌≡◌, ◌≢◌, ◌≤◌, ◌<◌, ◌+◌, ◌-◌, ◌&&◌, ℕ, zero, suc, List, [], ◌∷◌, ◌++◌, Bool, true, false, not, length, take, drop, get_or, Option, Some, None, refl, sym, ◌∙◌, ap, subst, arith}
-use Rattle.std.specs.Prelude.{IfSome, nat_le, replicate}
+use Rattle.std.proofs.Common.{◌≡◌, ◌≢◌, ◌≤◌, ◌<◌, ◌+◌, ◌-◌, ◌&&◌, ℕ, zero, suc, List, [], ◌∷◌, ◌++◌, Bool, true, false, not, length, take, drop, get_or, Option, Some, None, refl, sym, ◌∙◌, ap, subst, arith, append_assoc, length-append}
+use Rattle.std.specs.Prelude.{IfSome, nat_le, nat_lt, replicate}
 use Rattle.std.specs.List.{AllByRecursion, list_all}
-use Rattle.std.specs.Option.{IsSomeAnd}
+use Rattle.std.specs.Option.{IsSomeAnd, option_map}
 use Rattle.std.specs.Str.{bytes_eq}
 use Rattle.std.proofs.lemmas.Bool.{false≢true}
 use Rattle.std.proofs.lemmas.Bool.Decides.{nat_tests}
-use Rattle.std.proofs.lemmas.List.{take_more, map-append}
+use Rattle.std.proofs.lemmas.List.{take_more, map-append, append-nil}
 use Rattle.std.proofs.lemmas.List.Elements.{All-from_recursion}
 use Rattle.std.proofs.lemmas.Slice.Eq.{bytes_eq-Decides}
 use Rattle.imsm_base.specs.declared.bounds.TheConstants.{SERIAL_BYTES}
 use Rattle.imsm_base.specs.declared.units.Serial.{Serial}
-use Rattle.imsm_base.specs.declared.units.Sector.{Sector}
 use Rattle.device_log.specs.Log.{Call}
 use Rattle.member_bank.specs.Faults.{Rose}
 use Rattle.member_bank.specs.Told.{Keeps}
-use Rattle.image_outside.specs.Outside.{Adds, HasOneMore, HasOnlyReads, HoldsFresh, IsNew, OnlyReads}
+use Rattle.image_outside.specs.Outside.{IsNew}
+use Rattle.member_bank.specs.declared.Bank as bank
+use Rattle.image_outside.specs.Told.{BankTold, ShelfTold, bank_told}
+use Rattle.image_outside.specs.Shelves.{HasOneMore, IsFresh, IsUncalled, IsUnused}
 use Rattle.image_words.specs.declared.words.ImageArg.{ImageArg}
 use Rattle.image_words.specs.Words.{ImageWord, IsImageWord, is_name, is_name_byte, is_apart_from, are_distinct, serial_named, serials_named}
 use Rattle.image_words.specs.Args.{word_of, words_of}
 use Rattle.image_words.proofs.Names.{bytes_of_name}
 use Rattle.image_run.specs.Lines.{open_line}
-use Rattle.image_run.specs.Openings.{OpensNot}
+use Rattle.image_run.specs.Openings.{OpensAll, OpensFresh, OpensNot, paths_named}
 
 and_left : (a b : Bool) → (a && b) ≡ true → a ≡ true
 and_left true b both = refl
@@ -88,42 +90,105 @@ word_get [] k d = refl
 word_get (i ∷ images) zero d = refl
 word_get (i ∷ images) (suc k) d = word_get images k d
 
-words_length : (images : List ImageArg) → length (words_of images) ≡ length images
+pub words_length : (images : List ImageArg) → length (words_of images) ≡ length images
 words_length [] = refl
 words_length (i ∷ images) = ap suc (words_length images)
 
+-- what is so of the bank of a shelf is so of it weakened
+pub opens_weaker : {images : List ImageWord} {before after : ShelfTold} {P Q : BankTold → Type 0} → ((bank : BankTold) → P bank → Q bank) → OpensAll images before after P → OpensAll images before after Q
+opens_weaker {images} {before} {after} {P} {Q} weaker opens = record { paths = opens.paths; bank = weak after.bank opens.bank }
+  where
+    weak : (held : Option BankTold) → IsSomeAnd held (λ bank. (bank.serials ≡ serials_named images) × P bank) → IsSomeAnd held (λ bank. (bank.serials ≡ serials_named images) × Q bank)
+    weak None holds = absurd holds
+    weak (Some bank) holds = (holds.0, weaker bank holds.1)
+
+no_disk : (d : ℕ) (serials : List Serial) → serials ≡ [] → d < length serials → ⊥
+no_disk d serials empty below = omega (arith, ap length empty, below)
+
+-- a shelf on which nothing was opened has opened no images
+pub opens_none : (shelf : ShelfTold) → IsSomeAnd shelf.bank IsUnused → OpensFresh [] shelf shelf
+opens_none shelf unused = record { paths = sym (append-nil shelf.paths); bank = none shelf.bank unused }
+  where
+    none : (held : Option BankTold) → IsSomeAnd held IsUnused → IsSomeAnd held (λ bank. (bank.serials ≡ serials_named []) × IsFresh [] bank)
+    none None holds = absurd holds
+    none (Some bank) holds = (holds.empty, record { named = holds.empty; fresh = holds.fresh; sound = λ d below. absurd (no_disk d bank.serials holds.empty below) })
+
+-- on a bank of opened images no call was made
+pub uncalled : (images : List ImageWord) (before after : ShelfTold) → OpensFresh images before after → IsSomeAnd after.bank IsUncalled
+uncalled images before after opens = none after.bank opens.bank
+  where
+    none : (held : Option BankTold) → IsSomeAnd held (λ bank. (bank.serials ≡ serials_named images) × IsFresh (serials_named images) bank) → IsSomeAnd held IsUncalled
+    none None holds = absurd holds
+    none (Some bank) holds = holds.1.fresh
+
 -- the serial of image k is new to a bank that has those before it
-pub is_new : {B : Type 0} → (serials : B → List Serial) (log : B → Option (List Call)) (held : Option B) (images : List ImageArg) (k : ℕ) (d : ImageArg) (serial : Serial)
+pub is_new : (held : Option BankTold) (images : List ImageArg) (k : ℕ) (d : ImageArg) (serial : Serial)
     → AllByRecursion IsImageWord (words_of images) → are_distinct (words_of images) ≡ true → k < length images → serial ≡ serial_named (word_of (get_or images k d))
-    → IsSomeAnd held (HoldsFresh serials log (serials_named (take k (words_of images)))) → IfSome held (λ (b : B). IsNew serial (serials b))
-is_new serials log None images k d serial each distinct below is holds = tt
-is_new serials log (Some b) images k d serial each distinct below is holds =
+    → IsSomeAnd held (λ bank. (bank.serials ≡ serials_named (take k (words_of images))) × IsFresh (serials_named (take k (words_of images))) bank)
+    → IfSome held (λ bank. IsNew serial bank.serials)
+is_new None images k d serial each distinct below is holds = tt
+is_new (Some b) images k d serial each distinct below is holds =
     let inside : k < length (words_of images) = omega (arith, words_length images) in
     let same : serial ≡ serial_named (get_or (words_of images) k (word_of d)) = is ∙ ap serial_named (sym (word_get images k d)) in
-    subst (λ (xs : List Serial). IsNew serial xs) (sym holds.named)
+    subst (λ (xs : List Serial). IsNew serial xs) (sym holds.0)
     (subst (λ (s : Serial). IsNew s (serials_named (take k (words_of images)))) (sym same)
     (All-from_recursion (λ (s : Serial). s ≢ serial_named (get_or (words_of images) k (word_of d))) (serials_named (take k (words_of images))) (new_serial (words_of images) k (word_of d) each distinct inside)))
 
--- after it was opened, the bank has it too
-pub one_more_held : {B : Type 0} → (serials : B → List Serial) (opening : B → Option (List (List Sector))) (log : B → Option (List Call)) (held now : Option B) (images : List ImageArg) (k : ℕ) (d : ImageArg) (serial : Serial)
-    → k < length images → serial ≡ serial_named (word_of (get_or images k d)) → IsSomeAnd held (HoldsFresh serials log (serials_named (take k (words_of images))))
-    → IsSomeAnd held (λ (old : B). IsSomeAnd now (HasOneMore serials opening log serial old)) → IsSomeAnd now (HoldsFresh serials log (serials_named (take (k + 1) (words_of images))))
-one_more_held serials opening log None now images k d serial below is holds more = absurd holds
-one_more_held serials opening log (Some b) None images k d serial below is holds more = absurd more
-one_more_held serials opening log (Some b) (Some c) images k d serial below is holds more =
-    let inside : k < length (words_of images) = omega (arith, words_length images) in
-    let same : serial ≡ serial_named (get_or (words_of images) k (word_of d)) = is ∙ ap serial_named (sym (word_get images k d)) in
-    let next : serials_named (take (k + 1) (words_of images)) ≡ serials_named (take k (words_of images)) ++ serial ∷ [] =
-    ap serials_named (take_more (words_of images) k (word_of d) inside) ∙ map-append serial_named (take k (words_of images)) (get_or (words_of images) k (word_of d) ∷ [])
-    ∙ ap (λ (s : Serial). serials_named (take k (words_of images)) ++ s ∷ []) (sym same) in
-    record {
-      named = more.named ∙ ap (λ (xs : List Serial). xs ++ serial ∷ []) holds.named ∙ sym next;
-      fresh = still_fresh (log b) (log c) holds.fresh more.logged;
-    }
+still_uncalled : (old new : Option (List Call)) → IfSome old (λ l. l ≡ []) → Keeps old new → IfSome new (λ l. l ≡ [])
+still_uncalled old None fresh keeps = tt
+still_uncalled old (Some l) fresh keeps = subst (λ (o : Option (List Call)). IfSome o (λ l. l ≡ [])) (keeps l refl) fresh
+
+-- the disks of a longer bank are sound, where those before are and the new one is
+still_sound : (old new : BankTold) (serial : Serial) → HasOneMore serial old new → ((d : ℕ) → d < length old.serials → old.faults d ≡ 0) → (d : ℕ) → d < length new.serials → new.faults d ≡ 0
+still_sound old new serial more sound d below =
+    let long : length new.serials ≡ length old.serials + 1 = ap length more.named ∙ length-append old.serials (serial ∷ []) in
+    at (nat_lt d (length old.serials)) refl (omega (arith, long, below))
   where
-    still_fresh : (old new : Option (List Call)) → IfSome old (λ l. l ≡ []) → Keeps old new → IfSome new (λ l. l ≡ [])
-    still_fresh old None fresh keeps = tt
-    still_fresh old (Some l) fresh keeps = subst (λ (o : Option (List Call)). IfSome o (λ l. l ≡ [])) (keeps l refl) fresh
+    at : (b : Bool) → nat_lt d (length old.serials) ≡ b → d < length old.serials + 1 → new.faults d ≡ 0
+    at true test within = more.counted d (grind (arith, nat_tests)) ∙ sound d (grind (arith, nat_tests))
+    at false test within =
+        let last : d ≡ length old.serials = grind (arith, nat_tests) in
+        subst (λ (n : ℕ). new.faults n ≡ 0) (sym last) more.sound
+
+-- after image k was opened too, the shelf has opened one more
+pub one_more_opened : (before old new : ShelfTold) (images : List ImageArg) (k : ℕ) (d : ImageArg) (serial : Serial) (path : List ℕ) → k < length images
+    → serial ≡ serial_named (word_of (get_or images k d)) → path ≡ (get_or images k d).file.now
+    → OpensFresh (take k (words_of images)) before old → new.paths ≡ old.paths ++ path ∷ []
+    → IsSomeAnd old.bank (λ a. IsSomeAnd new.bank (λ b. HasOneMore serial a b))
+    → OpensFresh (take (k + 1) (words_of images)) before new
+one_more_opened before old new images k d serial path below is path_is opens listed more = record {
+  paths = listed ∙ ap (λ (ps : List (List ℕ)). ps ++ path ∷ []) opens.paths ∙ append_assoc before.paths (paths_named (take k words)) (path ∷ []) ∙ ap (λ (ps : List (List ℕ)). before.paths ++ ps) (sym filed);
+  bank = longer old.bank new.bank opens.bank more;
+}
+  where
+    words : List ImageWord
+    words = words_of images
+
+    inside : k < length words
+    inside = omega (arith, words_length images)
+
+    here : get_or words k (word_of d) ≡ word_of (get_or images k d)
+    here = word_get images k d
+
+    front : take (k + 1) words ≡ take k words ++ get_or words k (word_of d) ∷ []
+    front = take_more words k (word_of d) inside
+
+    filed : paths_named (take (k + 1) words) ≡ paths_named (take k words) ++ path ∷ []
+    filed = ap paths_named front ∙ map-append (λ (image : ImageWord). image.file) (take k words) (get_or words k (word_of d) ∷ [])
+        ∙ ap (λ (p : List ℕ). paths_named (take k words) ++ p ∷ []) (ap (λ (w : ImageWord). w.file) here ∙ sym path_is)
+
+    named : serials_named (take (k + 1) words) ≡ serials_named (take k words) ++ serial ∷ []
+    named = ap serials_named front ∙ map-append serial_named (take k words) (get_or words k (word_of d) ∷ [])
+        ∙ ap (λ (s : Serial). serials_named (take k words) ++ s ∷ []) (ap serial_named here ∙ sym is)
+
+    longer : (a b : Option BankTold) → IsSomeAnd a (λ bank. (bank.serials ≡ serials_named (take k words)) × IsFresh (serials_named (take k words)) bank)
+        → IsSomeAnd a (λ (o : BankTold). IsSomeAnd b (λ n. HasOneMore serial o n))
+        → IsSomeAnd b (λ bank. (bank.serials ≡ serials_named (take (k + 1) words)) × IsFresh (serials_named (take (k + 1) words)) bank)
+    longer None b holds adds = absurd holds
+    longer (Some o) None holds adds = absurd adds
+    longer (Some o) (Some n) holds adds =
+        let all : n.serials ≡ serials_named (take (k + 1) words) = adds.named ∙ ap (λ (xs : List Serial). xs ++ serial ∷ []) holds.0 ∙ sym named in
+        (all, record { named = all; fresh = still_uncalled o.log n.log holds.1.fresh adds.logged; sound = still_sound o n serial adds holds.1.sound })
 
 -- the images, cut at one of them
 split_at : (ws : List ImageWord) (k : ℕ) (d : ImageWord) → k < length ws → ws ≡ take k ws ++ get_or ws k d ∷ drop (suc k) ws
@@ -131,28 +196,30 @@ split_at [] k d below = absurd (omega arith)
 split_at (w ∷ ws) zero d below = refl
 split_at (w ∷ ws) (suc k) d below = ap (λ (l : List ImageWord). w ∷ l) (split_at ws k d (omega arith))
 
--- image k couldn't be opened, and its line was written
-pub opens_not : {B : Type 0} (serials : B → List Serial) (log : B → Option (List Call)) (held : Option B) (images : List ImageArg) (k : ℕ) (d : ImageArg) (name : List ℕ) (before now : ℕ) (old full : Option (List ℕ))
-    → k < length images → name ≡ (get_or images k d).name.now → IsSomeAnd held (HoldsFresh serials log (serials_named (take k (words_of images)))) → Rose before now → Adds old full (open_line name)
-    → OpensNot serials log (words_of images) before now held old full 7
-opens_not serials log held images k d name before now old full below is holds rose adds = record {
+-- image k couldn't be opened, and its line is this
+pub opens_not : (images : List ImageArg) (k : ℕ) (d : ImageArg) (name : List ℕ) (before after : ShelfTold)
+    → k < length images → name ≡ (get_or images k d).name.now → Rose before.faults after.faults → OpensFresh (take k (words_of images)) before after
+    → OpensNot (words_of images) before after (open_line name) 7
+opens_not images k d name before after below is rose opens = record {
   front = take k (words_of images);
   image = word_of (get_or images k d);
   rest = drop (suc k) (words_of images);
   are = subst (λ (w : ImageWord). words_of images ≡ take k (words_of images) ++ w ∷ drop (suc k) (words_of images)) (word_get images k d)
       (split_at (words_of images) k (word_of d) (omega (arith, words_length images)));
-  opened = holds;
+  opened = opens_weaker (λ bank fresh. fresh.fresh) opens;
   cause = rose;
   status_is = refl;
-  line = subst (λ (n : List ℕ). Adds old full (open_line n)) is adds;
+  line = ap open_line is;
 }
 
--- a bank that made no call made no write
-pub fresh_reads : {B : Type 0} (serials : B → List Serial) (log : B → Option (List Call)) (names : List Serial) (held : Option B) → IsSomeAnd held (HoldsFresh serials log names) → IsSomeAnd held (HasOnlyReads log)
-fresh_reads serials log names None holds = absurd holds
-fresh_reads {B} serials log names (Some b) holds = none (log b) holds.fresh
-  where
-    none : (calls : Option (List Call)) → IfSome calls (λ l. l ≡ []) → IfSome calls OnlyReads
-    none None fresh = tt
-    none (Some []) fresh = tt
-    none (Some (call ∷ calls)) fresh = absurd (cc fresh)
+-- what a shelf tells of its bank, of the bank itself
+pub new_held : {B : Type 0} (g : bank.Ghosts B) (held : Option B) (serial : Serial) → IfSome (option_map (bank_told g) held) (λ b. IsNew serial b.serials) → IfSome held (λ b. IsNew serial (g.serials b))
+new_held g None serial new = tt
+new_held g (Some b) serial new = new
+
+pub more_told : {B : Type 0} (g : bank.Ghosts B) (old new : Option B) (serial : Serial)
+    → IsSomeAnd old (λ a. IsSomeAnd new (λ b. HasOneMore serial (bank_told g a) (bank_told g b)))
+    → IsSomeAnd (option_map (bank_told g) old) (λ a. IsSomeAnd (option_map (bank_told g) new) (λ b. HasOneMore serial a b))
+more_told g None new serial more = absurd more
+more_told g (Some a) None serial more = absurd more
+more_told g (Some a) (Some b) serial more = more

@@ -1,5 +1,7 @@
 pub mod Lines
 pub mod Openings
 pub mod Scripts
-pub mod Replays
-pub mod Commands
+pub mod Outside
+pub mod Requests
+pub mod Does
+pub mod Runs

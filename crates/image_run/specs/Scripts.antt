@@ -1,5 +1,5 @@
 -- The script of a command: the text of a source, or why there is none and the line that says so. Source: this project's own.
-use Rattle.std.specs.Prelude.{◌≡◌, ℕ, ◌+◌, ◌⊎◌, true, List, [], ◌∷◌, length, codes, Option, ⊤}
+use Rattle.std.specs.Prelude.{◌≡◌, ℕ, ◌+◌, ◌≤◌, ◌⊎◌, true, List, [], ◌∷◌, length, codes, ⊤}
 use Rattle.std.specs.Fmt.{decimal}
 use Rattle.array_model.specs.Kept.{ScriptState}
 use Rattle.member_bank.specs.Faults.{Rose}
@@ -14,6 +14,7 @@ use Rattle.run_script.specs.Scripts.{AreRight, IsFirstWrong, orders_in, script_o
 use Rattle.image_outside.specs.declared.source.TheConstants.{MAX_SOURCE_BYTES}
 use Rattle.image_outside.specs.Outside.{TakesAll, TakesFront}
 use Rattle.image_outside.specs.Endings.{memory_line}
+use Rattle.image_outside.specs.Told.{SourceTold}
 use Rattle.imsm_text.specs.Text.{line}
 use Rattle.image_run.specs.Lines.{limit_line}
 use Rattle.image_run.specs.declared.script.ScriptStop.{ScriptStop}
@@ -24,25 +25,30 @@ pub record IsScript (text : List ℕ) (script : ScriptState) : Type 0 where
   pub right : AreRight true (lines_of text) (length (lines_of text))
   pub script_is : script ≡ script_of (orders_in true (lines_of text))
 
--- a source was read to its end, and what was left of it is a script
-pub record TakesScript (old new : Option (List ℕ)) (script : ScriptState) : Type 0 where
+-- a source was read to its end, and this is what was left of it, no more than is read of a source
+pub record TakesText (old new : SourceTold) (text : List ℕ) : Type 0 where
+  pub taken : TakesAll old.left new.left text
+  pub few : length text ≤ MAX_SOURCE_BYTES
+
+-- what was left of a source is a script
+pub record TakesScript (old new : SourceTold) (script : ScriptState) : Type 0 where
   pub text : List ℕ
-  pub taken : TakesAll old new text
+  pub taken : TakesText old new text
   pub is : IsScript text script
 
--- a source was read to its end, and this is what is wrong first with what was left of it
-pub record TakesFault (old new : Option (List ℕ)) (fault : ScriptFault) : Type 0 where
+-- this is what is wrong first with what was left of a source
+pub record TakesFault (old new : SourceTold) (fault : ScriptFault) : Type 0 where
   pub text : List ℕ
-  pub taken : TakesAll old new text
+  pub taken : TakesText old new text
   pub wrong : IsFirstWrong true (lines_of text) fault
 
 -- the cause of a stop; want of memory has none
-abbrev pub StopsBy : (old new : Option (List ℕ)) (before now : ℕ) → ScriptStop → Type 0
-StopsBy old new before now Memory = ⊤
-StopsBy old new before now Read = Rose before now
-StopsBy old new before now Bytes = TakesFront old new (MAX_SOURCE_BYTES + 1)
-StopsBy old new before now (Line number kind) = TakesFault old new (faults.Line number kind)
-StopsBy old new before now (Limit kind number) = TakesFault old new (faults.Limit kind number)
+abbrev pub StopsBy : (old new : SourceTold) → ScriptStop → Type 0
+StopsBy old new Memory = ⊤
+StopsBy old new Read = Rose old.faults new.faults
+StopsBy old new Bytes = TakesFront old.left new.left (MAX_SOURCE_BYTES + 1)
+StopsBy old new (Line number kind) = TakesFault old new (faults.Line number kind)
+StopsBy old new (Limit kind number) = TakesFault old new (faults.Limit kind number)
 
 abbrev pub kind_word : LineKind → List ℕ
 kind_word Word = codes "word"

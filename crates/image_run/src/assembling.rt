@@ -1,12 +1,14 @@
 //! The command `assemble`: images are opened, and what is said of them is printed.
-ghost use Rattle.std.specs.Prelude.{◌≡◌, ◌≤◌, [], length, IfSome};
+ghost use Rattle.std.specs.Prelude.{◌≡◌, ◌≤◌, length};
 ghost use Rattle.std.specs.Option.{IsSomeAnd};
-ghost use Rattle.image_outside.specs.Outside.{HasOnlyReads, IsUnused};
+ghost use Rattle.image_outside.specs.Told.{bank_told};
+ghost use Rattle.image_outside.specs.Views.{shelf_told, sink_told};
+ghost use Rattle.image_outside.specs.Shelves.{HasOnlyReads, IsUncalled, IsUnused};
 ghost use Rattle.image_outside.specs.Endings.{EndsIfMemory};
 ghost use Rattle.image_words.specs.Words.{AreImages};
 ghost use Rattle.image_words.specs.Args.{words_of};
 ghost use Rattle.image_verdict.specs.Endings.{Reports};
-ghost use Rattle.image_run.specs.Commands.{AssembleEnds};
+ghost use Rattle.image_run.specs.Does.{OnImages};
 
 use crate::opening::open_images;
 use image_outside::{Shelf, Sink, Status, end_without_memory};
@@ -18,11 +20,10 @@ use std::alloc::Global;
 
 /// Prints what is said of the disks of a bank, of which there are 1 to 16.
 fn assemble<B: Bank, K: Sink>(alloc: Global, bank: &mut B, sink: &mut K) -> Status
-    requires fresh { IfSome (B.log bank.old) (λ l. l ≡ []) }
+    requires fresh { IsUncalled (bank_told B.Bank bank.old) }
     requires some { 1 ≤ length (B.serials bank.old) }
-    ensures reads { HasOnlyReads B.log bank.new }
-    ensures ends { EndsIfMemory (K.written sink.old) (K.written sink.new) (K.faults_of sink.old) (K.faults_of sink.new)
-        (Reports (B.serials bank.new) (B.sizes bank.new) (B.opening bank.new) (B.log bank.new) (K.written sink.old)) result.0 }
+    ensures reads { HasOnlyReads (bank_told B.Bank bank.new) }
+    ensures ends { EndsIfMemory (sink_told K.Sink sink.old) (sink_told K.Sink sink.new) (Reports (bank_told B.Bank bank.new)) result.0 }
     ensures serials { B.serials bank.new ≡ B.serials bank.old }
 {
     match read_images(alloc, bank) {
@@ -38,12 +39,13 @@ pub(crate) fn assemble_images<H: Shelf, K: Sink>(
     shelf: &mut H,
     sink: &mut K,
 ) -> Status
-    requires unused { IsSomeAnd (H.held shelf.old) (IsUnused H.Held.serials H.Held.log) }
+    requires unused { IsSomeAnd (shelf_told H.Shelf H.Held.Bank shelf.old).bank IsUnused }
     requires named { AreImages (words_of images.now) }
     requires few { length images.now ≤ MAX_DISKS }
-    ensures reads { IsSomeAnd (H.held shelf.new) (HasOnlyReads H.Held.log) }
-    ensures ends { EndsIfMemory (K.written sink.old) (K.written sink.new) (K.faults_of sink.old) (K.faults_of sink.new)
-        (AssembleEnds H.Held.serials H.Held.sizes H.Held.opening H.Held.log (words_of images.now) (H.faults_of shelf.old) (H.faults_of shelf.new) (H.held shelf.new) (K.written sink.old)) result.0 }
+    ensures reads { IsSomeAnd (shelf_told H.Shelf H.Held.Bank shelf.new).bank HasOnlyReads }
+    ensures ends { EndsIfMemory (sink_told K.Sink sink.old) (sink_told K.Sink sink.new)
+        (OnImages (words_of images.now) (shelf_told H.Shelf H.Held.Bank shelf.old) (shelf_told H.Shelf H.Held.Bank shelf.new) Reports)
+        result.0 }
 {
     if let Err(status) = open_images(alloc, images, shelf, sink) {
         return status;

@@ -1,18 +1,20 @@
 //! The command `create`: its images are opened, and a container is made over them.
 ghost use Rattle.std.specs.Prelude.{◌≡◌, ◌≤◌, true, length};
 ghost use Rattle.std.specs.Option.{IsSomeAnd};
-ghost use Rattle.imsm_base.specs.declared.bounds.TheConstants.{MAX_DISKS as MOST_IMAGES};
 ghost use Rattle.new_container.specs.Fits.{container_fits};
-ghost use Rattle.image_outside.specs.Outside.{HasOnlyReads, IsUnused};
+ghost use Rattle.image_outside.specs.Views.{shelf_told, sink_told};
+ghost use Rattle.image_outside.specs.Shelves.{HasOnlyReads, IsUnused};
 ghost use Rattle.image_outside.specs.Endings.{EndsIfMemory};
 ghost use Rattle.image_words.specs.Words.{AreImages};
 ghost use Rattle.image_words.specs.Args.{words_of};
-ghost use Rattle.image_run.specs.Commands.{CreateEnds};
+ghost use Rattle.image_create.specs.Creates.{CreatesBy};
+ghost use Rattle.image_run.specs.Does.{OnImages};
 
 use crate::opening::open_images;
 use image_create::create;
 use image_outside::{Shelf, Sink, Status};
 use image_words::ImageArg;
+use imsm_base::MAX_DISKS;
 use new_container::NewContainer;
 use std::alloc::Global;
 
@@ -24,13 +26,14 @@ pub(crate) fn create_images<H: Shelf, K: Sink>(
     shelf: &mut H,
     sink: &mut K,
 ) -> Status
-    requires unused { IsSomeAnd (H.held shelf.old) (IsUnused H.Held.serials H.Held.log) }
+    requires unused { IsSomeAnd (shelf_told H.Shelf H.Held.Bank shelf.old).bank IsUnused }
     requires named { AreImages (words_of images.now) }
-    requires few { length images.now ≤ MOST_IMAGES }
+    requires few { length images.now ≤ MAX_DISKS }
     requires fits { container_fits made.now (length images.now) ≡ true }
-    ensures unmade { result.0 ≡ 9 → IsSomeAnd (H.held shelf.new) (HasOnlyReads H.Held.log) }
-    ensures ends { EndsIfMemory (K.written sink.old) (K.written sink.new) (K.faults_of sink.old) (K.faults_of sink.new)
-        (CreateEnds H.Held.serials H.Held.sizes H.Held.opening H.Held.log H.Held.faults_of made.now (words_of images.now) (H.faults_of shelf.old) (H.faults_of shelf.new) (H.held shelf.new) (K.written sink.old)) result.0 }
+    ensures unmade { result.0 ≡ 9 → IsSomeAnd (shelf_told H.Shelf H.Held.Bank shelf.new).bank HasOnlyReads }
+    ensures ends { EndsIfMemory (sink_told K.Sink sink.old) (sink_told K.Sink sink.new)
+        (OnImages (words_of images.now) (shelf_told H.Shelf H.Held.Bank shelf.old) (shelf_told H.Shelf H.Held.Bank shelf.new)
+        (CreatesBy made.now)) result.0 }
 {
     if let Err(status) = open_images(alloc, images, shelf, sink) {
         return status;

@@ -1,11 +1,13 @@
 //! The command `examine`: its image is opened, and what is found on it is printed.
 ghost use Rattle.std.specs.Prelude.{◌≡◌, length};
 ghost use Rattle.std.specs.Option.{IsSomeAnd};
-ghost use Rattle.image_outside.specs.Outside.{HasOnlyReads, IsUnused};
+ghost use Rattle.image_outside.specs.Views.{shelf_told, sink_told};
+ghost use Rattle.image_outside.specs.Shelves.{HasOnlyReads, IsUnused};
 ghost use Rattle.image_outside.specs.Endings.{EndsIfMemory};
 ghost use Rattle.image_words.specs.Words.{AreImages};
 ghost use Rattle.image_words.specs.Args.{words_of};
-ghost use Rattle.image_run.specs.Commands.{ExamineEnds};
+ghost use Rattle.image_examine.specs.Endings.{Examines};
+ghost use Rattle.image_run.specs.Does.{OnImages};
 
 use crate::opening::open_images;
 use image_examine::examine;
@@ -20,12 +22,13 @@ pub(crate) fn examine_image<H: Shelf, K: Sink>(
     shelf: &mut H,
     sink: &mut K,
 ) -> Status
-    requires unused { IsSomeAnd (H.held shelf.old) (IsUnused H.Held.serials H.Held.log) }
+    requires unused { IsSomeAnd (shelf_told H.Shelf H.Held.Bank shelf.old).bank IsUnused }
     requires named { AreImages (words_of images.now) }
     requires one { length images.now ≡ 1 }
-    ensures reads { IsSomeAnd (H.held shelf.new) (HasOnlyReads H.Held.log) }
-    ensures ends { EndsIfMemory (K.written sink.old) (K.written sink.new) (K.faults_of sink.old) (K.faults_of sink.new)
-        (ExamineEnds H.Held.serials H.Held.sizes H.Held.opening H.Held.log H.Held.faults_of (words_of images.now) (H.faults_of shelf.old) (H.faults_of shelf.new) (H.held shelf.new) (K.written sink.old)) result.0 }
+    ensures reads { IsSomeAnd (shelf_told H.Shelf H.Held.Bank shelf.new).bank HasOnlyReads }
+    ensures ends { EndsIfMemory (sink_told K.Sink sink.old) (sink_told K.Sink sink.new)
+        (OnImages (words_of images.now) (shelf_told H.Shelf H.Held.Bank shelf.old) (shelf_told H.Shelf H.Held.Bank shelf.new) Examines)
+        result.0 }
 {
     if let Err(status) = open_images(alloc, images, shelf, sink) {
         return status;

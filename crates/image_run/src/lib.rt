@@ -9,7 +9,7 @@ mod opening;
 mod replaying;
 mod script;
 
-pub use command::{image_main, image_still};
+pub use command::image_main;
 pub use image_outside::{
     MAX_SOURCE_BYTES, MemFault, MemFile, MemShelf, MemSink, MemSource, Shelf, ShelfFault, Sink,
     Source, SourceFault, Status, end_without_memory, read_all,

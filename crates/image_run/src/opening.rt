@@ -1,13 +1,14 @@
 //! The images of a command are opened on a shelf.
-ghost use Rattle.std.specs.Prelude.{◌≡◌, ℕ, ◌<◌, ◌≤◌, [], true, length, map, take, IsSome, IfSome, IfErr, OnOk, Err};
+ghost use Rattle.std.specs.Prelude.{◌≡◌, ℕ, ◌<◌, ◌≤◌, true, length, take, IsSome, IfErr, OnOk, Err};
 ghost use Rattle.std.specs.List.{AllByRecursion};
 ghost use Rattle.std.specs.Option.{IsSomeAnd};
 ghost use Rattle.member_bank.specs.Faults.{Rose};
-ghost use Rattle.image_outside.specs.Outside.{HoldsFresh, IsUnused};
+ghost use Rattle.image_outside.specs.Shelves.{IsUncalled, IsUnused};
+ghost use Rattle.image_outside.specs.Views.{shelf_told, sink_told};
 ghost use Rattle.image_outside.specs.Endings.{EndsIfMemory};
-ghost use Rattle.image_words.specs.Words.{IsImageWord, are_distinct, serials_named};
+ghost use Rattle.image_words.specs.Words.{IsImageWord, are_distinct};
 ghost use Rattle.image_words.specs.Args.{words_of};
-ghost use Rattle.image_run.specs.Openings.{OpensNot};
+ghost use Rattle.image_run.specs.Openings.{OpensFresh, OpensNot};
 
 use image_lines::end_line;
 use image_outside::{Shelf, ShelfFault, Sink, Status, end_without_memory};
@@ -31,14 +32,17 @@ fn open_all<H: Shelf>(
     images: &[ImageArg<'_>],
     shelf: &mut H,
 ) -> Result<(), OpenFault>
-    requires unused { IsSomeAnd (H.held shelf.old) (IsUnused H.Held.serials H.Held.log) }
+    requires unused { IsSomeAnd (shelf_told H.Shelf H.Held.Bank shelf.old).bank IsUnused }
     requires few { length images.now ≤ MAX_DISKS }
     requires each { AllByRecursion IsImageWord (words_of images.now) }
     requires distinct { are_distinct (words_of images.now) ≡ true }
-    ensures fresh { (opened : ℕ) × IsSomeAnd (H.held shelf.new) (HoldsFresh H.Held.serials H.Held.log (serials_named (take opened (words_of images.now)))) }
-    ensures ok { OnOk result (IsSomeAnd (H.held shelf.new) (HoldsFresh H.Held.serials H.Held.log (serials_named (words_of images.now)))) }
-    ensures failed { (i : ℕ) → result ≡ Err (OpenFault.Failed i) → (i < length images.now) × Rose (H.faults_of shelf.old) (H.faults_of shelf.new)
-        × IsSomeAnd (H.held shelf.new) (HoldsFresh H.Held.serials H.Held.log (serials_named (take i (words_of images.now)))) }
+    ensures uncalled { IsSomeAnd (shelf_told H.Shelf H.Held.Bank shelf.new).bank IsUncalled }
+    ensures ok { OnOk result (OpensFresh (words_of images.now)
+        (shelf_told H.Shelf H.Held.Bank shelf.old) (shelf_told H.Shelf H.Held.Bank shelf.new)) }
+    ensures failed { (i : ℕ) → result ≡ Err (OpenFault.Failed i) → (i < length images.now)
+        × Rose (H.faults_of shelf.old) (H.faults_of shelf.new)
+        × OpensFresh (take i (words_of images.now))
+        (shelf_told H.Shelf H.Held.Bank shelf.old) (shelf_told H.Shelf H.Held.Bank shelf.new) }
 {
     for (i, image) in images.iter().enumerate() {
         match shelf.open(alloc, image.serial(), image.file) {
@@ -57,15 +61,17 @@ pub fn open_images<H: Shelf, K: Sink>(
     shelf: &mut H,
     sink: &mut K,
 ) -> Result<(), Status>
-    requires unused { IsSomeAnd (H.held shelf.old) (IsUnused H.Held.serials H.Held.log) }
+    requires unused { IsSomeAnd (shelf_told H.Shelf H.Held.Bank shelf.old).bank IsUnused }
     requires few { length images.now ≤ MAX_DISKS }
     requires each { AllByRecursion IsImageWord (words_of images.now) }
     requires distinct { are_distinct (words_of images.now) ≡ true }
-    ensures fresh { (opened : ℕ) × IsSomeAnd (H.held shelf.new) (HoldsFresh H.Held.serials H.Held.log (serials_named (take opened (words_of images.now)))) }
-    ensures ok { OnOk result (IsSomeAnd (H.held shelf.new) (HoldsFresh H.Held.serials H.Held.log (serials_named (words_of images.now)))) }
+    ensures uncalled { IsSomeAnd (shelf_told H.Shelf H.Held.Bank shelf.new).bank IsUncalled }
+    ensures ok { OnOk result (OpensFresh (words_of images.now)
+        (shelf_told H.Shelf H.Held.Bank shelf.old) (shelf_told H.Shelf H.Held.Bank shelf.new)) }
     ensures silent { OnOk result (sink.new ≡ sink.old) }
-    ensures ends { IfErr result (λ status. EndsIfMemory (K.written sink.old) (K.written sink.new) (K.faults_of sink.old) (K.faults_of sink.new)
-        (OpensNot H.Held.serials H.Held.log (words_of images.now) (H.faults_of shelf.old) (H.faults_of shelf.new) (H.held shelf.new) (K.written sink.old)) status.0) }
+    ensures ends { IfErr result (λ status. EndsIfMemory (sink_told K.Sink sink.old) (sink_told K.Sink sink.new)
+        (OpensNot (words_of images.now) (shelf_told H.Shelf H.Held.Bank shelf.old) (shelf_told H.Shelf H.Held.Bank shelf.new))
+        status.0) }
 {
     match open_all(alloc, images, shelf) {
         Ok(()) => Ok(()),

@@ -2,11 +2,15 @@
 ghost use Rattle.std.specs.Prelude.{◌≡◌, ◌≤◌, ◌^◌, length};
 ghost use Rattle.std.specs.Option.{IsSomeAnd};
 ghost use Rattle.run_script.specs.Within.{IsWithin};
-ghost use Rattle.image_outside.specs.Outside.{HasOnlyReads, HoldsFresh, IsUnused};
+ghost use Rattle.image_outside.specs.Views.{shelf_told, sink_told};
+ghost use Rattle.image_outside.specs.Shelves.{HasOnlyReads, IsFresh, IsUnused};
 ghost use Rattle.image_outside.specs.Endings.{EndsIfMemory};
 ghost use Rattle.image_words.specs.Words.{AreImages, serials_named};
 ghost use Rattle.image_words.specs.Args.{words_of};
-ghost use Rattle.image_run.specs.Replays.{PlaysOn, ReplayEnds};
+ghost use Rattle.image_replay.specs.Replays.{ReplaysBy};
+ghost use Rattle.image_run.specs.Does.{ReplayEnds};
+ghost use Rattle.image_run.specs.Openings.{OpensAll};
+ghost use Rattle.image_run.specs.Outside.{outside_told};
 
 use crate::opening::open_images;
 use crate::script::{end_stopped, read_script};
@@ -17,24 +21,24 @@ use image_words::ImageArg;
 use imsm_base::MAX_DISKS;
 use std::alloc::Global;
 
-/// Replays a script on the disks that a shelf holds.
+/// Replays a script on the disks that a shelf holds, which are those of these images.
 fn replay_on<H: Shelf, K: Sink>(
     alloc: Global,
-    names: &[ImageArg<'_>],
+    images: &[ImageArg<'_>],
     script: &Script,
     limit: u32,
     shelf: &mut H,
     sink: &mut K,
 ) -> Status
-    requires some { 1 ≤ length names.now }
-    requires fresh { IsSomeAnd (H.held shelf.old) (HoldsFresh H.Held.serials H.Held.log (serials_named (words_of names.now))) }
+    requires some { 1 ≤ length images.now }
+    requires fresh { IsSomeAnd (shelf_told H.Shelf H.Held.Bank shelf.old).bank (IsFresh (serials_named (words_of images.now))) }
     requires limit { limit ≤ 2 ^ 20 }
     requires script { IsWithin script.now }
-    ensures unrun { result.0 ≡ 9 → IsSomeAnd (H.held shelf.new) (HasOnlyReads H.Held.log) }
-    ensures ends { EndsIfMemory (K.written sink.old) (K.written sink.new) (K.faults_of sink.old) (K.faults_of sink.new)
-        (λ told status. IsSomeAnd (H.held shelf.new) (PlaysOn H.Held.serials H.Held.sizes H.Held.opening H.Held.log H.Held.faults_of
-        (serials_named (words_of names.now)) script.now limit (K.written sink.old) told status)) result.0 }
-    ensures faults { H.faults_of shelf.new ≡ H.faults_of shelf.old }
+    ensures unrun { result.0 ≡ 9 → IsSomeAnd (shelf_told H.Shelf H.Held.Bank shelf.new).bank HasOnlyReads }
+    ensures ends { EndsIfMemory (sink_told K.Sink sink.old) (sink_told K.Sink sink.new)
+        (λ lines status. IsSomeAnd (shelf_told H.Shelf H.Held.Bank shelf.new).bank (λ bank.
+        (bank.serials ≡ serials_named (words_of images.now)) × ReplaysBy script.now limit bank lines status)) result.0 }
+    ensures paths { H.paths shelf.new ≡ H.paths shelf.old }
 {
     let (bank, status) = replay(alloc, shelf.lend(), script, limit, sink);
     shelf.hand_back(bank);
@@ -50,14 +54,14 @@ pub(crate) fn replay_images<H: Shelf, S: Source, K: Sink>(
     source: &mut S,
     sink: &mut K,
 ) -> Status
-    requires unused { IsSomeAnd (H.held shelf.old) (IsUnused H.Held.serials H.Held.log) }
+    requires unused { IsSomeAnd (shelf_told H.Shelf H.Held.Bank shelf.old).bank IsUnused }
     requires named { AreImages (words_of images.now) }
     requires few { length images.now ≤ MAX_DISKS }
     requires limit { limit ≤ 2 ^ 20 }
-    ensures unrun { result.0 ≡ 9 → IsSomeAnd (H.held shelf.new) (HasOnlyReads H.Held.log) }
-    ensures ends { EndsIfMemory (K.written sink.old) (K.written sink.new) (K.faults_of sink.old) (K.faults_of sink.new)
-        (ReplayEnds H.Held.serials H.Held.sizes H.Held.opening H.Held.log H.Held.faults_of (words_of images.now) limit (H.faults_of shelf.old) (H.faults_of shelf.new)
-        (S.left source.old) (S.left source.new) (S.faults_of source.old) (S.faults_of source.new) (H.held shelf.new) (K.written sink.old)) result.0 }
+    ensures unrun { result.0 ≡ 9 → IsSomeAnd (shelf_told H.Shelf H.Held.Bank shelf.new).bank HasOnlyReads }
+    ensures ends { EndsIfMemory (sink_told K.Sink sink.old) (sink_told K.Sink sink.new)
+        (ReplayEnds limit (words_of images.now) (outside_told H.Shelf H.Held.Bank S.Source K.Sink shelf.old source.old sink.old)
+        (outside_told H.Shelf H.Held.Bank S.Source K.Sink shelf.new source.new sink.new)) result.0 }
 {
     if let Err(status) = open_images(alloc, images, shelf, sink) {
         return status;

@@ -1,8 +1,8 @@
 //! The script of a command is read from its source.
 ghost use Rattle.std.specs.Prelude.{◌≡◌, IfOk, IfErr};
 ghost use Rattle.run_script.specs.Within.{IsWithin};
-ghost use Rattle.image_outside.specs.Outside.{TakesAll};
 ghost use Rattle.image_outside.specs.Endings.{EndsIfMemory, Prints};
+ghost use Rattle.image_outside.specs.Views.{sink_told, source_told};
 ghost use Rattle.image_run.specs.Scripts.{IsScript, IsStopped, StopsBy, TakesScript, kind_word, limit_word, stop_line, stop_status};
 
 use array_model::Script;
@@ -29,9 +29,9 @@ pub enum ScriptStop {
 
 /// Reads a source to its end, and the script that it is.
 pub(crate) fn read_script<S: Source>(alloc: Global, source: &mut S) -> Result<Script, ScriptStop>
-    ensures taken { IfOk result (λ script. TakesScript (S.left source.old) (S.left source.new) script) }
+    ensures taken { IfOk result (λ script. TakesScript (source_told S.Source source.old) (source_told S.Source source.new) script) }
     ensures within { IfOk result (λ script. IsWithin script) }
-    ensures stopped { IfErr result (λ stop. StopsBy (S.left source.old) (S.left source.new) (S.faults_of source.old) (S.faults_of source.new) stop) }
+    ensures stopped { IfErr result (λ stop. StopsBy (source_told S.Source source.old) (source_told S.Source source.new) stop) }
 {
     let text = match read_all(alloc, source) {
         Ok(text) => text,
@@ -75,8 +75,8 @@ fn limit_word(kind: LimitKind) -> &'static [u8]
 
 /// Ends where there is no script.
 pub(crate) fn end_stopped<K: Sink>(sink: &mut K, stop: ScriptStop) -> Status
-    ensures { EndsIfMemory (K.written sink.old) (K.written sink.new) (K.faults_of sink.old) (K.faults_of sink.new)
-        (λ told status. IsStopped status × Prints (stop_line stop) (stop_status stop) (K.written sink.old) told status) result.0 }
+    ensures { EndsIfMemory (sink_told K.Sink sink.old) (sink_told K.Sink sink.new)
+        (λ lines status. IsStopped status × Prints (stop_line stop) (stop_status stop) lines status) result.0 }
 {
     match stop {
         ScriptStop::Memory => end_without_memory(sink),

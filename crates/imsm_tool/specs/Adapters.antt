@@ -1,10 +1,16 @@
 -- What contracts see of the files, the reader and the writer that a command works on. Source: this project's own.
-use Rattle.std.specs.Prelude.{ℕ, List, Option}
+use Rattle.std.specs.Prelude.{ℕ, List, Option, None, slice_index}
 use Rattle.member_bank.specs.Files.{FileState}
+use Rattle.image_outside.specs.Told.{BankTold}
 
--- the bank, but while it is lent, and how often a file couldn't be opened
+-- what a bank of files tells: neither what they hold nor the calls on them
+abbrev pub files_told : FileState → BankTold
+files_told b = record { serials = b.serials; sizes = b.sizes; opening = None; log = None; faults = λ d. slice_index b.faults d }
+
+-- the bank, but while it is lent, the paths of its files, and how often a file couldn't be opened
 pub record FilesState : Type 0 where
   pub bank : Option FileState
+  pub paths : List (List ℕ)
   pub faults : ℕ
 
 -- the bytes that a reader has left, where they are known, and how often a read has failed

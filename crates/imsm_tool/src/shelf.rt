@@ -1,7 +1,9 @@
 //! Disks that are files of this machine.
-ghost use Rattle.std.specs.Prelude.{◌≡◌, ◌≢◌, ◌<◌, ◌↔◌, ◌⊎◌, ℕ, [], Some, length, All, IsTrue, IfOk, OnOk, OnErr};
+ghost use Rattle.std.specs.Prelude.{◌≡◌, ◌≢◌, ◌<◌, ◌↔◌, ◌⊎◌, ℕ, [], Some, Err, length, All, IsTrue, IfOk, OnOk, OnErr, string_bytes, vec_len, vec_capacity};
 ghost use Rattle.std.specs.IoError.{error_kind};
 ghost use Rattle.member_bank.specs.Files.{with_file};
+ghost use Rattle.image_outside.specs.Shelves.{HasOneMore};
+ghost use Rattle.imsm_tool.specs.Adapters.{files_told};
 
 use image_run::{Shelf, ShelfFault};
 use imsm_base::{DiskNo, MAX_DISKS, Serial};
@@ -56,6 +58,7 @@ fn add(bank: &mut FileBank, serial: Serial, image: io::Result<File>) -> Result<D
     requires distinct { All (λ s. s ≢ serial) bank.old.serials }
     ensures number { IfOk result (λ d. d.0 ≡ length bank.old.serials) }
     ensures ok { OnOk result ((sectors : ℕ) × (bank.new ≡ with_file bank.old serial sectors)) }
+    ensures more { OnOk result (HasOneMore serial (files_told bank.old) (files_told bank.new)) }
     ensures err { OnErr result (bank.new ≡ bank.old) }
 {
     let number = DiskNo(bank.disks());
@@ -67,6 +70,17 @@ fn add(bank: &mut FileBank, serial: Serial, image: io::Result<File>) -> Result<D
     }
 }
 
+/// A path, and room for it behind others.
+fn new_path(alloc: Global, paths: &mut Vec<String>, path: &str) -> Result<String, ShelfFault>
+    ensures same { IfOk result (λ p. string_bytes p ≡ path.now) }
+    ensures kept { paths.new.items ≡ paths.old.items }
+    ensures room { OnOk result (vec_len paths.new < vec_capacity paths.new) }
+    ensures memory { result ≢ Err ShelfFault.Failed }
+{
+    paths.reserve(1).map_err(|_| ShelfFault::Memory)?;
+    String::from_str(alloc, path).map_err(|_| ShelfFault::Memory)
+}
+
 /// A shelf whose disks are files, opened by their paths. A file that can't be written is opened all the same: a write
 /// to it is then a fault of that disk.
 #[derive(Drop)]
@@ -74,26 +88,29 @@ pub struct FileShelf<'a, R> {
     rt: &'a R,
     numbers: io::Result<[File; 3]>,
     bank: Option<FileBank>,
+    paths: Vec<String>,
     faults: u64,
 }
 
 impl<'a, R> Model for FileShelf<'a, R> {
+    ghost use Rattle.image_outside.specs.Memory.{paths_of};
     ghost use Rattle.imsm_tool.specs.Adapters.{FilesState};
 
     ghost Value = { FilesState };
 
-    ghost view = { λ s. record { bank = s.bank; faults = s.faults } };
+    ghost view = { λ s. record { bank = s.bank; paths = paths_of s.paths.items; faults = s.faults } };
 }
 
 impl<'a, R: Files<File = File>> FileShelf<'a, R> {
     /// A shelf on which nothing is opened.
     pub fn new(alloc: Global, rt: &'a R) -> FileShelf<'a, R>
-        ensures { result ≡ record { bank = Some (record { serials = []; sizes = []; faults = [] }); faults = 0 } }
+        ensures { result ≡ record { bank = Some (record { serials = []; sizes = []; faults = [] }); paths = []; faults = 0 } }
     {
         FileShelf {
             rt,
             numbers: hold_numbers(rt),
             bank: Some(FileBank::new(alloc)),
+            paths: Vec::new(alloc),
             faults: 0,
         }
     }
@@ -114,15 +131,20 @@ impl<R: Files<File = File>> Shelf for FileShelf<'_, R> {
 
     ghost held = { λ s. s.bank };
 
+    ghost paths = { λ s. s.paths };
+
     ghost faults_of = { λ s. s.faults };
 
-    fn open(&mut self, _alloc: Global, serial: Serial, file: &str) -> Result<DiskNo, ShelfFault> {
+    fn open(&mut self, alloc: Global, serial: Serial, file: &str) -> Result<DiskNo, ShelfFault> {
+        let path = new_path(alloc, &mut self.paths, file)?;
         let image = self.open_apart(file);
         let mut bank = self.bank.take().unwrap();
         let added = add(&mut bank, serial, image);
         self.bank = Some(bank);
-        if let Err(ShelfFault::Failed) = added {
-            self.faults = self.faults.saturating_add(1);
+        match added {
+            Ok(_) => self.paths.push_reserved(path),
+            Err(ShelfFault::Failed) => self.faults = self.faults.saturating_add(1),
+            Err(ShelfFault::Memory) => {}
         }
         added
     }

@@ -1,5 +1,6 @@
-use Rattle.std.proofs.Common.{arith}
-use Rattle.image_run.proofs.Opened.{short_name, arg_at, is_new, one_more_held}
+use Rattle.std.proofs.Common.{arith, refl}
+use Rattle.image_outside.specs.Views.{shelf_told}
+use Rattle.image_run.proofs.Opened.{short_name, arg_at, is_new, more_told, new_held, one_more_opened}
 use Rattle.image_run.proofs.opening.open_all.Goals as goal
 
 pub serial-requires : goal.serial-requires
@@ -7,12 +8,14 @@ serial-requires g c = short_name _ (arg_at c.args.images.now c.loop-i.i _ c.requ
 
 pub open-requires-clause-new : goal.open-requires-clause-new
 open-requires-clause-new g c =
-    is_new g.H.Held.Bank.serials g.H.Held.Bank.log (g.H.Shelf.held c.loop-i.shelf) c.args.images.now c.loop-i.i _ c.serial.result
-    c.requires.each c.requires.distinct c.loop-i-test.true c.serial.ensures c.loop-i.invariant.held
+    new_held g.H.Held.Bank (g.H.Shelf.held c.loop-i.shelf) c.serial.result
+    (is_new (shelf_told g.H.Shelf g.H.Held.Bank c.loop-i.shelf).bank c.args.images.now c.loop-i.i _ c.serial.result
+    c.requires.each c.requires.distinct c.loop-i-test.true c.serial.ensures c.loop-i.invariant.opens.bank)
 
 pub loop-i-preserved : goal.loop-i-preserved
 loop-i-preserved g c = record {
-  held = one_more_held g.H.Held.Bank.serials g.H.Held.Bank.opening g.H.Held.Bank.log (g.H.Shelf.held c.loop-i.shelf) (g.H.Shelf.held c.open.new.self) c.args.images.now c.loop-i.i _ c.serial.result
-      c.loop-i-test.true c.serial.ensures c.loop-i.invariant.held c.in-Ok.ensures.opened;
+  opens = one_more_opened (shelf_told g.H.Shelf g.H.Held.Bank c.args.shelf.now) (shelf_told g.H.Shelf g.H.Held.Bank c.loop-i.shelf) (shelf_told g.H.Shelf g.H.Held.Bank c.open.new.self)
+      c.args.images.now c.loop-i.i _ c.serial.result _ c.loop-i-test.true c.serial.ensures refl c.loop-i.invariant.opens c.in-Ok.ensures.path
+      (more_told g.H.Held.Bank (g.H.Shelf.held c.loop-i.shelf) (g.H.Shelf.held c.open.new.self) c.serial.result c.in-Ok.ensures.opened);
   later = omega (arith, c.loop-i.invariant.later, c.open.ensures.later);
 }

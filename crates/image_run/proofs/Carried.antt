@@ -1,0 +1,125 @@
+-- What a command asks for is carried out: from what is done on its images to the promise.
+use Rattle.std.proofs.Common.{◌≡◌, ◌≤◌, ℕ, List, [], length, Option, Some, None, inl, inr, sym, subst, ◌∙◌, ap, arith}
+use Rattle.std.specs.Option.{IsSomeAnd}
+use Rattle.std.specs.Prelude.{IfSome}
+use Rattle.imsm_base.specs.declared.bounds.TheConstants.{MAX_DISKS}
+use Rattle.imsm_base.specs.declared.units.Serial.{Serial}
+use Rattle.device_log.specs.Log.{Call}
+use Rattle.new_container.proofs.Whole.{few_disks}
+use Rattle.image_outside.specs.Outside.{OnlyReads}
+use Rattle.image_outside.specs.Told.{BankTold, ShelfTold}
+use Rattle.image_outside.specs.Shelves.{HasOnlyReads, IsFresh, IsUncalled, IsUnused}
+use Rattle.image_outside.specs.Endings.{Ends, EndsIfMemory, Prints}
+use Rattle.image_outside.proofs.Ended.{ends_so}
+use Rattle.image_words.specs.Args.{Asks}
+use Rattle.image_words.specs.Words.{ImageWord, IsCommand, IsPastLimit, IsWithinLimit, serials_named}
+use Rattle.image_words.specs.declared.verbs.Verb.{Verb}
+use Rattle.image_words.specs.declared.verbs.Verb.TheVariants as verbs
+use Rattle.image_run.specs.Does.{Does, IsUntouched}
+use Rattle.image_run.specs.Openings.{OpensAll, OpensFresh}
+use Rattle.image_run.specs.Outside.{Outside}
+use Rattle.image_run.specs.Requests.{Request, NotWords, TooManyImages, Assemble, Examine, Create, Replay, IsAsked, request_of}
+use Rattle.image_run.specs.Runs.{Carries, Leaves, Runs}
+
+-- ON A BANK THAT WAS LENT
+
+-- the bank of a shelf on which images were opened
+pub lent_fresh : (images : List ImageWord) (before mid : ShelfTold) (lent : BankTold) → OpensFresh images before mid → mid.bank ≡ Some lent → IsFresh (serials_named images) lent
+lent_fresh images before mid lent opens is =
+    (subst (λ (held : Option BankTold). IsSomeAnd held (λ bank. (bank.serials ≡ serials_named images) × IsFresh (serials_named images) bank)) is opens.bank).1
+
+-- the bank came back with its disks, and this holds of it
+pub handed_back : (images : List ImageWord) (before mid after : ShelfTold) (lent now : BankTold) (P : BankTold → Type 0)
+    → OpensFresh images before mid → mid.bank ≡ Some lent → after.paths ≡ mid.paths → after.bank ≡ Some now → now.serials ≡ lent.serials → P now → OpensAll images before after P
+handed_back images before mid after lent now P opens is paths back same so = record {
+  paths = paths ∙ opens.paths;
+  bank = subst (λ (held : Option BankTold). IsSomeAnd held (λ bank. (bank.serials ≡ serials_named images) × P bank)) (sym back)
+      (same ∙ (lent_fresh images before mid lent opens is).named, so);
+}
+
+-- the same of what a shelf holds
+pub held_fresh : (held : Option BankTold) (lent : BankTold) (names : List Serial) → held ≡ Some lent → IsSomeAnd held (IsFresh names) → IsFresh names lent
+held_fresh held lent names is fresh = subst (λ (h : Option BankTold). IsSomeAnd h (IsFresh names)) is fresh
+
+pub held_back : (held : Option BankTold) (now : BankTold) (names : List Serial) (P : BankTold → Type 0) → held ≡ Some now → now.serials ≡ names → P now → IsSomeAnd held (λ bank. (bank.serials ≡ names) × P bank)
+held_back held now names P is same so = subst (λ (h : Option BankTold). IsSomeAnd h (λ bank. (bank.serials ≡ names) × P bank)) (sym is) (same, so)
+
+-- a bank that made no call made no write
+uncalled_log : (log : Option (List Call)) → IfSome log (λ calls. calls ≡ []) → IfSome log OnlyReads
+uncalled_log None none = tt
+uncalled_log (Some calls) none = subst OnlyReads (sym none) tt
+
+pub uncalled_reads : (held : Option BankTold) → IsSomeAnd held IsUncalled → IsSomeAnd held HasOnlyReads
+uncalled_reads None none = absurd none
+uncalled_reads (Some bank) none = uncalled_log bank.log none
+
+unused_reads : (held : Option BankTold) → IsSomeAnd held IsUnused → IsSomeAnd held HasOnlyReads
+unused_reads None unused = absurd unused
+unused_reads (Some bank) unused = uncalled_log bank.log unused.fresh
+
+-- THE COMMANDS
+
+-- what was done to the images of a command, without the source
+pub carries : (request : Request) (before after : Outside) (One : List ℕ → ℕ → Type 0) (status : ℕ) → ((lines : List ℕ) (s : ℕ) → One lines s → Does request before after lines s)
+    → (status ≡ 9 → Leaves request before after) → EndsIfMemory before.sink after.sink One status → Carries request before after status
+carries request before after One status does leaves (inl ends) = inl (ends_so before.sink after.sink One (Does request before after) status does ends)
+carries request before after One status does leaves (inr (is, memory)) = inr (is, memory, leaves is)
+
+-- the same of words that open nothing
+pub carries_line : (request : Request) (before after : Outside) (lines : List ℕ) (status result : ℕ) → ((told : List ℕ) (s : ℕ) → Prints lines status told s → Does request before after told s)
+    → Ends before.sink after.sink (Prints lines status) result → Carries request before after result
+carries_line request before after lines status result does ends = inl (ends_so before.sink after.sink (Prints lines status) (Does request before after) result does ends)
+
+reads_after : (before after : Outside) → IsUntouched before after → IsSomeAnd before.shelf.bank IsUnused → IsSomeAnd after.shelf.bank HasOnlyReads
+reads_after before after same unused = subst (λ (shelf : ShelfTold). IsSomeAnd shelf.bank HasOnlyReads) (sym same.shelf) (unused_reads before.shelf.bank unused)
+
+-- what is left of the outside where memory ran out before anything was opened
+pub leaves_all : (request : Request) (before after : Outside) → IsUntouched before after → IsSomeAnd before.shelf.bank IsUnused → Leaves request before after
+leaves_all NotWords before after same unused = same
+leaves_all TooManyImages before after same unused = same
+leaves_all (Assemble images) before after same unused = (same.source, reads_after before after same unused)
+leaves_all (Examine images) before after same unused = (same.source, reads_after before after same unused)
+leaves_all (Create made images) before after same unused = (same.source, reads_after before after same unused)
+leaves_all (Replay limit images) before after same unused = reads_after before after same unused
+
+-- THE WORDS
+
+pub same : (verb : Verb) (images : List ImageWord) (v : Verb) (is : List ImageWord) → (verb ≡ v) × (images ≡ is) → request_of verb images ≡ request_of v is
+same verb images v is both = ap (λ (w : Verb). request_of w images) both.0 ∙ ap (request_of v) both.1
+
+names : (words : List (List ℕ)) (verb : Verb) (images : List ImageWord) → Asks words verb images → IsCommand words
+names words verbs.Assemble images asks = (images, inl asks)
+names words (verbs.Replay limit) images asks = (images, inr (inl (limit, asks)))
+names words verbs.Examine images asks = (images, inr (inr (inl asks)))
+names words (verbs.Create made) images asks = (images, inr (inr (inr (made, asks))))
+
+-- what is asked for by words of a command is that command
+pub one_request : (words : List (List ℕ)) (verb : Verb) (images : List ImageWord) → Asks words verb images → length images ≤ MAX_DISKS
+    → ((v : Verb) (is : List ImageWord) → Asks words v is → (verb ≡ v) × (images ≡ is)) → (IsPastLimit words → ⊥)
+    → (request : Request) → IsAsked words request → request_of verb images ≡ request
+one_request words verb images asks few only within NotWords asked = absurd (asked (names words verb images asks))
+one_request words verb images asks few only within TooManyImages asked = absurd (within asked)
+one_request words verb images asks few only within (Assemble is) asked = same verb images verbs.Assemble is (only verbs.Assemble is asked.0)
+one_request words verb images asks few only within (Examine is) asked = same verb images verbs.Examine is (only verbs.Examine is asked)
+one_request words verb images asks few only within (Create made is) asked = same verb images (verbs.Create made) is (only (verbs.Create made) is asked)
+one_request words verb images asks few only within (Replay limit is) asked = same verb images (verbs.Replay limit) is (only (verbs.Replay limit) is asked.0)
+
+-- words outside the grammar ask for nothing else
+pub asks_nothing : (words : List (List ℕ)) (before after : Outside) (result : ℕ) → (IsCommand words → ⊥) → Carries NotWords before after result → Runs words before after result
+asks_nothing words before after result none carried NotWords asked = carried
+asks_nothing words before after result none carried TooManyImages asked = absurd (none (asked.0, asked.1))
+asks_nothing words before after result none carried (Assemble images) asked = absurd (none (images, inl asked.0))
+asks_nothing words before after result none carried (Examine images) asked = absurd (none (images, inr (inr (inl asked))))
+asks_nothing words before after result none carried (Create made images) asked = absurd (none (images, inr (inr (inr (made, asked)))))
+asks_nothing words before after result none carried (Replay limit images) asked = absurd (none (images, inr (inl (limit, asked.0))))
+
+-- nor do words that name too many images
+pub asks_too_many : (words : List (List ℕ)) (before after : Outside) (result : ℕ) → IsPastLimit words → (IsWithinLimit words → ⊥) → Carries TooManyImages before after result → Runs words before after result
+asks_too_many words before after result past none carried NotWords asked = absurd (asked (past.0, past.1))
+asks_too_many words before after result past none carried TooManyImages asked = carried
+asks_too_many words before after result past none carried (Assemble images) asked = absurd (none (images, inl asked.0, asked.1))
+asks_too_many words before after result past none carried (Examine images) asked = absurd (none (images, inr (inr (inl asked)), omega (arith, asked.alone)))
+asks_too_many words before after result past none carried (Create made images) asked =
+    let few = few_disks made (length images) asked.fitting in
+    absurd (none (images, inr (inr (inr (made, asked))), omega (arith, few.1)))
+asks_too_many words before after result past none carried (Replay limit images) asked = absurd (none (images, inr (inl (limit, asked.0)), asked.1))
