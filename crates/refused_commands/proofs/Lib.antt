@@ -1,0 +1,4 @@
+pub mod First
+pub mod Rises
+pub mod Changes
+pub mod Statuses

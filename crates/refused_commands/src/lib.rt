@@ -1,0 +1,83 @@
+//! What the promise of a command refuses: runs that a careless or a lazy command would leave. They are proved, not run.
+#![tactic(auto)]
+
+ghost use Rattle.std.specs.Prelude.{ℕ, ◌≡◌, ◌≢◌, List, [], ◌∷◌, ◌++◌};
+ghost use Rattle.std.specs.Option.{IsSomeAnd};
+ghost use Rattle.device_log.specs.Log.{Call};
+ghost use Rattle.imsm_base.specs.declared.units.Serial.{Serial};
+ghost use Rattle.imsm_base.specs.Whole.{anchor_place};
+ghost use Rattle.array_model.specs.Kept.{ScriptState};
+ghost use Rattle.new_container.specs.declared.container.NewContainer.{NewContainer};
+ghost use Rattle.image_outside.specs.Shelves.{IsUnused};
+ghost use Rattle.image_outside.specs.Told.{BankTold};
+ghost use Rattle.image_words.specs.Words.{ImageWord};
+ghost use Rattle.image_verdict.specs.Endings.{Reports};
+ghost use Rattle.image_verdict.specs.Text.{unbuilt_line};
+ghost use Rattle.image_create.specs.Calls.{create_calls};
+ghost use Rattle.image_create.specs.Creates.{CreatesBy, rows_on};
+ghost use Rattle.image_replay.specs.Replays.{ReplaysBy};
+ghost use Rattle.image_run.specs.Does.{Does};
+ghost use Rattle.image_run.specs.Outside.{Outside};
+ghost use Rattle.image_run.specs.Requests.{Request, Assemble, Create, Replay};
+ghost use Rattle.image_run.specs.Runs.{Carries};
+ghost use Rattle.image_run.specs.Scripts.{TakesScript};
+ghost use Rattle.refused_commands.specs.Wrong.{FailsAnchor, HoldsPair, LeavesAnchor, StandsStill, TellsChange, TellsOfFirst, TellsOfOne, images_of, read_of};
+
+/// Two images whose files were opened in the other order are refused, whatever was asked for and however it ends. In
+/// the order of the words they are admitted, with what is made or said of their bank.
+pub fn swapped_files_are_refused()
+    ensures swapped { (request : Request) (a b : ImageWord) (before after : Outside) (lines : List ℕ) (status : ℕ)
+        → images_of request ≡ a ∷ b ∷ [] → a.file ≢ b.file
+        → after.shelf.paths ≡ before.shelf.paths ++ b.file ∷ a.file ∷ [] → Does request before after lines status → ⊥ }
+    ensures assembled { (a b : ImageWord) (before after : Outside) (bank : BankTold) (lines : List ℕ) (status : ℕ)
+        → HoldsPair a b before.shelf after.shelf bank → after.source ≡ before.source
+        → Reports bank lines status → Does (Assemble (a ∷ b ∷ [])) before after lines status }
+    ensures created { (made : NewContainer) (a b : ImageWord) (before after : Outside) (bank : BankTold)
+        → (lines : List ℕ) (status : ℕ) → HoldsPair a b before.shelf after.shelf bank → after.source ≡ before.source
+        → CreatesBy made bank lines status → Does (Create made (a ∷ b ∷ [])) before after lines status }
+    ensures replayed { (limit : ℕ) (script : ScriptState) (a b : ImageWord) (before after : Outside) (bank : BankTold)
+        → (lines : List ℕ) (status : ℕ) → HoldsPair a b before.shelf after.shelf bank
+        → TakesScript before.source after.source script → ReplaysBy script limit bank lines status
+        → Does (Replay limit (a ∷ b ∷ [])) before after lines status }
+{}
+
+/// Whatever is said of one image, it is refused where no call was made, where the anchor was read twice, and where
+/// another place was read. One whose anchor couldn't be read is admitted as not built yet, behind that one call.
+pub fn misread_anchors_are_refused()
+    ensures unread { (n : ℕ) (bank : BankTold) (lines : List ℕ) (status : ℕ)
+        → TellsOfOne n [] bank → Reports bank lines status → ⊥ }
+    ensures twice { (n : ℕ) (bank : BankTold) (lines : List ℕ) (status : ℕ)
+        → TellsOfOne n (read_of (anchor_place n) ∷ read_of (anchor_place n) ∷ []) bank → Reports bank lines status → ⊥ }
+    ensures elsewhere { (n place : ℕ) (bank : BankTold) (lines : List ℕ) (status : ℕ) → place ≢ anchor_place n
+        → TellsOfOne n (read_of place ∷ []) bank → Reports bank lines status → ⊥ }
+    ensures once { (own : Serial) (n : ℕ) (bank : BankTold)
+        → FailsAnchor own n bank → Reports bank (unbuilt_line own) 14 }
+{}
+
+/// A container is refused as made where no call writes the place of the first disk's anchor, and where the calls are
+/// those for a first disk whose anchor has another place: so where zeros and anchor are a sector lower.
+pub fn misplaced_containers_are_refused()
+    ensures unwritten { (made : NewContainer) (n : ℕ) (log : List Call) (bank : BankTold) (lines : List ℕ)
+        → LeavesAnchor n log → TellsOfFirst n log bank → CreatesBy made bank lines 0 → ⊥ }
+    ensures resized { (made : NewContainer) (n m : ℕ) (sizes bytes : List ℕ) (bank : BankTold) (lines : List ℕ)
+        → anchor_place m ≢ anchor_place n → TellsOfFirst n (create_calls (m ∷ sizes) (rows_on made bank) bytes) bank
+        → CreatesBy made bank lines 0 → ⊥ }
+{}
+
+/// A replay whose source didn't fail is refused as one that did, and an assembly that read from its source is refused
+/// however it ends.
+pub fn forged_read_faults_are_refused()
+    ensures faultless { (limit : ℕ) (images : List ImageWord) (before after : Outside) (lines : List ℕ)
+        → StandsStill before.source.faults after.source.faults → Does (Replay limit images) before after lines 5 → ⊥ }
+    ensures greedy { (images : List ImageWord) (before after : Outside) (lines : List ℕ) (status : ℕ)
+        → after.source ≢ before.source → Does (Assemble images) before after lines status → ⊥ }
+{}
+
+/// Whatever was asked for, a write fault is refused where no write failed, and want of memory where a disk was written
+/// or synced.
+pub fn forged_ends_are_refused()
+    ensures faultless { (request : Request) (before after : Outside)
+        → StandsStill before.sink.faults after.sink.faults → Carries request before after 6 → ⊥ }
+    ensures written { (request : Request) (before after : Outside) → IsSomeAnd before.shelf.bank IsUnused
+        → IsSomeAnd after.shelf.bank TellsChange → Carries request before after 9 → ⊥ }
+{}
