@@ -1,8 +1,19 @@
 //! Blocks that are copied, made and edited.
+ghost use Rattle.std.specs.Prelude.{◌<◌, IsTrue};
+ghost use Rattle.imsm_base.specs.Layout.{volume_count_of};
+ghost use Rattle.imsm_buffer.specs.Buffer.{parts_of};
+
 use crate::mirror::{MIRROR, changed};
 use imsm_base::VolNo;
 use imsm_buffer::MpbBuf;
 use imsm_codec::check;
+
+/// Whether a volume is there to be edited.
+fn has_volume(buffer: &MpbBuf) -> bool
+    ensures { IsTrue result → 0 < volume_count_of (parts_of buffer.now) }
+{
+    buffer.parts().volumes() != 0
+}
 
 /// The checksum rises by the generation's one and by the dirty byte's, which is the third of its word.
 #[test]
@@ -17,7 +28,7 @@ fn edits_a_copy(rt: HostRuntime) {
     };
     assert!(rt; buffer.bytes() == MIRROR.as_slice());
     buffer.set_generation(2);
-    assert!(rt; buffer.parts().volumes() != 0);
+    assert!(rt; has_volume(&buffer));
     buffer.set_dirty(VolNo(0), true);
     assert_eq!(rt; buffer.parts().generation(), 2);
     assert!(rt; check(buffer.bytes()).is_err());
