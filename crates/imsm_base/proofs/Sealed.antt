@@ -4,7 +4,7 @@ use Rattle.std.proofs.lemmas.Bool.{cases_order, eq-eqb, both_ways}
 use Rattle.std.proofs.lemmas.List.{get_or-set_other, get_or-set_same}
 use Rattle.byteorder.specs.Endian.{little_bytes}
 use Rattle.byteorder.specs.Numbers.{little_number-reads_back}
-use Rattle.imsm_base.specs.declared.bounds.TheConstants.{MAX_BLOCK_BYTES}
+use Rattle.units.specs.declared.bounds.TheConstants.{MAX_BLOCK_BYTES}
 use Rattle.imsm_base.specs.Fields.{number, number_at}
 use Rattle.imsm_base.specs.Layout.{Block, Spells, header_lengths, signature_of, size_of, checksum_of, disk_count_of, volume_count_of}
 use Rattle.imsm_base.specs.Whole.{IsWholeBlock, IsSize, AreCounts, AreApart, IsAcceptedTail, the_signature, expected_serials, words_sum, block_sum}

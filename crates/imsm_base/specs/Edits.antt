@@ -3,7 +3,7 @@
 -- Source: generation_num, mpb_size and check_sum of struct imsm_super and dirty of struct imsm_vol, of super-intel.c.
 use Rattle.std.specs.Prelude.{ℕ, zero, suc, ◌+◌, ◌*◌, ◌/◌, Bool, if◌then◌else◌, List, [], ◌∷◌, ◌++◌, length, take, replicate, slice_set}
 use Rattle.byteorder.specs.Endian.{little_bytes}
-use Rattle.imsm_base.specs.declared.bounds.TheConstants.{SECTOR_BYTES}
+use Rattle.units.specs.declared.bounds.TheConstants.{SECTOR_BYTES}
 use Rattle.imsm_base.specs.Fields.{Part, number_at, with_number_at}
 use Rattle.imsm_base.specs.Layout.{Block, Volume, dirty_byte_of}
 use Rattle.imsm_base.specs.Parts.{volumes_in, volumes_room, behind_disks}
@@ -51,7 +51,8 @@ abbrev pub block_with_generation : Block → ℕ → Block
 block_with_generation b g = with_header_field 5 (little_bytes 4 g) b
 
 abbrev pub volume_with_dirty : Bool → Volume → Volume
-volume_with_dirty on v = record v { state = with_field 4 (little_bytes 1 (with_lowest_bit (dirty_byte_of v) on)) v.state }
+volume_with_dirty on v =
+    record v { state = with_field 4 (little_bytes 1 (with_lowest_bit (dirty_byte_of v) on)) v.state }
 
 -- volume number k alone is changed
 abbrev pub volumes_with_dirty : ℕ → Bool → List Volume → List Volume

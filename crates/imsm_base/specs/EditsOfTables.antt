@@ -1,7 +1,7 @@
--- Edits of a metadata block's tables, on its parts: the disk records, the volumes, their maps and entries. An edit changes
--- what it names; all else stays, carried fields, gap and tail too, and moves with its table.
--- Source: struct imsm_disk, imsm_dev, imsm_vol and imsm_map of super-intel.c. The mark of a checkpoint is this project's
--- own.
+-- Edits of a metadata block's tables, on its parts: the disk records, the volumes, their maps and entries. An edit
+-- changes what it names; all else stays, carried fields, gap and tail too, and moves with its table.
+-- Source: struct imsm_disk, imsm_dev, imsm_vol and imsm_map of super-intel.c. The mark of a checkpoint is this
+-- project's own.
 use Rattle.std.specs.Prelude.{ℕ, zero, suc, ◌+◌, ◌-◌, ◌/◌, ◌%◌, ◌^◌, nat_lt, if◌then◌else◌, List, [], ◌∷◌, ◌++◌, length, map, replicate}
 use Rattle.std.specs.List.{remove}
 use Rattle.byteorder.specs.Endian.{little_bytes}
@@ -30,7 +30,8 @@ with_map m f v = record v { maps = changed_at m f v.maps }
 
 -- a number in two fields, by its halves
 abbrev pub with_wide : ℕ → ℕ → ℕ → Part → Part
-with_wide low high n part = with_field high (little_bytes 4 (n / 2 ^ 32)) (with_field low (little_bytes 4 (n % 2 ^ 32)) part)
+with_wide low high n part =
+    with_field high (little_bytes 4 (n / 2 ^ 32)) (with_field low (little_bytes 4 (n % 2 ^ 32)) part)
 
 -- EDITS OF FIELDS
 
@@ -58,7 +59,10 @@ block_with_name b v name = with_volume v (volume_with_name name) b
 -- the type of an open pass, how far it has come, and whose mark says so
 abbrev pub volume_with_pass : ℕ → ℕ → Volume → Volume
 volume_with_pass kind unit v =
-    record v { state = with_wide 0 8 unit (with_field 1 (little_bytes 4 0x494d0001) (with_field 3 (little_bytes 1 kind) v.state)) }
+    record v {
+      state = with_wide 0 8 unit
+          (with_field 1 (little_bytes 4 0x494d0001) (with_field 3 (little_bytes 1 kind) v.state));
+    }
 
 abbrev pub block_with_pass : Block → ℕ → ℕ → ℕ → Block
 block_with_pass b v kind unit = with_volume v (volume_with_pass kind unit) b
@@ -78,7 +82,9 @@ block_with_migration b v = with_volume v volume_with_migration b
 -- none is open, and of the pass nothing is left
 abbrev pub volume_without_migration : Volume → Volume
 volume_without_migration v = record v {
-  state = with_wide 0 8 0 (with_field 1 (little_bytes 4 0) (with_field 3 (little_bytes 1 0) (with_field 2 (little_bytes 1 0) v.state)));
+  state =
+      with_wide 0 8 0 (with_field 1 (little_bytes 4 0)
+      (with_field 3 (little_bytes 1 0) (with_field 2 (little_bytes 1 0) v.state)));
   maps = first_map v ∷ [];
 }
 

@@ -2,8 +2,8 @@
 -- this project starts today. Source: this project's own.
 use Rattle.std.specs.Prelude.{◌≡◌, ◌≤◌, ◌<◌, false, [], ◌∷◌, Some, None, true}
 use Rattle.std.specs.List.{list_all, list_any}
-use Rattle.imsm_base.specs.declared.units.Level.TheVariants.{One}
-use Rattle.imsm_base.specs.declared.bounds.TheConstants.{SECTOR_BYTES, FIRST_GENERATION_REFUSED}
+use Rattle.units.specs.declared.volume.Level.TheVariants.{One}
+use Rattle.units.specs.declared.bounds.TheConstants.{SECTOR_BYTES, FIRST_GENERATION_REFUSED}
 use Rattle.imsm_base.specs.Layout.{Block, Volume, size_of, generation_of, tail_size_of, disk_count_of, map_state_of}
 use Rattle.imsm_base.specs.Whole.{is_expected}
 use Rattle.imsm_base.specs.Volumes.{volume_level, volume_fault, first_map, members, has_pass, is_dirty}

@@ -5,11 +5,12 @@ use Rattle.std.specs.Prelude.{ℕ, ◌<◌, ◌≤◌, ◌+◌, ◌-◌, ◌*◌
 use Rattle.std.specs.Option.{option_map, option_map_or}
 use Rattle.std.specs.List.{list_any, list_all, range_with_len}
 use Rattle.std.specs.Int.{bit_at}
-use Rattle.imsm_base.specs.declared.units.Level.{Level}
-use Rattle.imsm_base.specs.declared.units.Level.TheVariants.{One, Five, Ten}
-use Rattle.imsm_base.specs.declared.bounds.TheConstants.{METADATA_SECTORS}
+use Rattle.units.specs.declared.volume.Level.{Level}
+use Rattle.units.specs.declared.volume.Level.TheVariants.{One, Five, Ten}
+use Rattle.units.specs.declared.bounds.TheConstants.{METADATA_SECTORS}
 use Rattle.imsm_base.specs.Layout.{Block, Volume, Map, disk_count_of, total_blocks_of, volume_size_of, policy_of, unit_of, checkpoint_of, migration_state_of, migration_type_of, dirty_byte_of, pba_of, blocks_per_member_of, strip_of, map_state_of, level_byte_of, member_count_of, orders_of}
 use Rattle.imsm_base.specs.Whole.{is_expected}
+use Rattle.units.specs.Levels.{suffices, rows_of}
 
 abbrev pub blank_map : Map
 blank_map = record { fields = []; entries = [] }
@@ -72,30 +73,8 @@ level_of byte count =
 abbrev pub volume_level : Volume → Option Level
 volume_level v = level_of (level_byte_of (first_map v)) (member_count_of (first_map v))
 
--- whether the slots from this one on suffice: one of two, all but one, or one of each pair
-abbrev pub suffices : Option Level → List Bool → Bool
-suffices None slots = false
-suffices (Some One) slots = list_any (λ s. s) slots
-suffices (Some Five) slots = nat_le (count_by not slots) 1
-suffices (Some Ten) slots = list_any (λ s. s) (take 2 slots) && list_any (λ s. s) (drop 2 slots)
-
 abbrev pub can_run : Block → Volume → Bool
 can_run b v = suffices (volume_level v) (map (is_in_sync b) (members v)) && not (map_state_of (first_map v) == 3)
-
--- how many strips one stripe has for data
-abbrev pub data_members : Level → ℕ → ℕ
-data_members One count = 1
-data_members Five count = count - 1
-data_members Ten count = 2
-
-abbrev pub rounded_up : ℕ → ℕ → ℕ
-rounded_up n step = (n + (step - 1)) / step
-
-abbrev pub rows_of : Option Level → ℕ → ℕ → ℕ → ℕ
-rows_of None count size strip = 0
-rows_of (Some One) count size strip = size
-rows_of (Some Five) count size strip = strip * rounded_up size (data_members Five count * strip)
-rows_of (Some Ten) count size strip = strip * rounded_up size (data_members Ten count * strip)
 
 abbrev pub volume_rows : Volume → ℕ
 volume_rows v = rows_of (volume_level v) (member_count_of (first_map v)) (volume_size_of v) (strip_of (first_map v))

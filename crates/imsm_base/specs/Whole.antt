@@ -6,14 +6,17 @@ use Rattle.std.specs.List.{AllByRecursion}
 use Rattle.std.specs.Option.{IsSomeAnd}
 use Rattle.std.specs.Int.{bit_at}
 use Rattle.std.specs.Str.{bytes_eq}
-use Rattle.imsm_base.specs.declared.units.Sector.{Sector}
-use Rattle.imsm_base.specs.declared.bounds.TheConstants.{HEADER_BYTES, MAX_BLOCK_BYTES, MAX_DISKS, MAX_VOLUMES, METADATA_SECTORS}
+use Rattle.units.specs.declared.disk.Sector.{Sector}
+use Rattle.units.specs.declared.bounds.TheConstants.{HEADER_BYTES, MAX_BLOCK_BYTES, MAX_DISKS, MAX_VOLUMES, METADATA_SECTORS}
+use Rattle.units.specs.Places.{anchor_place, extended_count}
 use Rattle.imsm_base.specs.Fields.{Part, number_at}
 use Rattle.imsm_base.specs.Layout.{Block, Spells, signature_of, checksum_of, size_of, disk_count_of, volume_count_of, serial_of, status_of, total_blocks_of}
 
 -- "Intel Raid ISM Cfg Sig. " (MPB_SIGNATURE)
 abbrev pub the_signature : List ℕ
-the_signature = 0x49 ∷ 0x6e ∷ 0x74 ∷ 0x65 ∷ 0x6c ∷ 0x20 ∷ 0x52 ∷ 0x61 ∷ 0x69 ∷ 0x64 ∷ 0x20 ∷ 0x49 ∷ 0x53 ∷ 0x4d ∷ 0x20 ∷ 0x43 ∷ 0x66 ∷ 0x67 ∷ 0x20 ∷ 0x53 ∷ 0x69 ∷ 0x67 ∷ 0x2e ∷ 0x20 ∷ []
+the_signature =
+    0x49 ∷ 0x6e ∷ 0x74 ∷ 0x65 ∷ 0x6c ∷ 0x20 ∷ 0x52 ∷ 0x61 ∷ 0x69 ∷ 0x64 ∷ 0x20 ∷ 0x49 ∷ 0x53 ∷ 0x4d ∷ 0x20 ∷ 0x43
+    ∷ 0x66 ∷ 0x67 ∷ 0x20 ∷ 0x53 ∷ 0x69 ∷ 0x67 ∷ 0x2e ∷ 0x20 ∷ []
 
 -- the sum of the first n words of four bytes, but for the word at 0x20, the checksum (__gen_imsm_checksum)
 abbrev pub words_sum : List ℕ → ℕ → ℕ
@@ -67,12 +70,6 @@ IsWhole bytes = (b : Block) × IsWholeBlock bytes b
 
 -- The block that stands at the end of a disk of n sectors: its first sector, the anchor, is the second to last, and
 -- its other sectors stand in order just before the anchor. `at` gives the sector at each place.
-abbrev pub anchor_place : ℕ → ℕ
-anchor_place n = n - 2
-
-abbrev pub extended_count : ℕ → ℕ
-extended_count size = (size + 511) / 512 - 1
-
 abbrev pub sectors_from : (ℕ → Sector) → ℕ → ℕ → List ℕ
 sectors_from at place zero = []
 sectors_from at place (suc k) = (at place).0 ++ sectors_from at (place + 1) k
@@ -90,7 +87,8 @@ first_of None other = other
 
 abbrev pub own_record : List ℕ → Block → Option Part
 own_record own b =
-    first_of (find (λ d. is_expected d && bytes_eq (serial_of d) own) b.disks) (find (λ d. bytes_eq (serial_of d) own) b.disks)
+    first_of (find (λ d. is_expected d && bytes_eq (serial_of d) own) b.disks)
+    (find (λ d. bytes_eq (serial_of d) own) b.disks)
 
 -- A disk with this serial and so many sectors is whole, by this block: its table holds the serial, and the record
 -- asks for no more sectors than there are.

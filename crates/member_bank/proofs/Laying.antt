@@ -4,11 +4,11 @@ use Rattle.std.specs.Prelude.{slice_get, nat_lt, ◌==◌, if◌then◌else◌}
 use Rattle.std.proofs.lemmas.List.{length-append, length-take, length-drop, length-set, take-append-drop, take_more_set, drop-set-lt, append_assoc, append-nil, get_or-set_same, length-map, map-set, get_or-map, with_items_is}
 use Rattle.std.proofs.Math.Seq.{map-set_same}
 use Rattle.std.specs.Vec.{with_items, vec_len}
-use Rattle.imsm_base.specs.declared.units.Serial.{Serial}
+use Rattle.units.specs.declared.disk.Serial.{Serial}
 use Rattle.member_bank.specs.declared.disks.MemDisk.{MemDisk}
 use Rattle.std.proofs.lemmas.Option.{slice_get-get_or, same_Some}
 use Rattle.std.proofs.lemmas.Grind.{common_steps}
-use Rattle.imsm_base.specs.declared.units.Sector.{Sector}
+use Rattle.units.specs.declared.disk.Sector.{Sector}
 use Rattle.device_log.specs.Cells.{Cell, brought, cell_written}
 use Rattle.member_bank.specs.Contents.{Contents, contents_of, laid, laid_on}
 

@@ -1,3 +1,4 @@
 pub mod Laying
 pub mod Showing
 pub mod Notes
+pub mod Faults

@@ -3,9 +3,9 @@ use Rattle.std.proofs.Common.{◌≡◌, ◌≤◌, ◌+◌, ℕ, suc, true, fal
 use Rattle.std.proofs.lemmas.List.{take_all, take-append-le, drop-append-le, length-drop, length-take, nil_from_length}
 use Rattle.std.proofs.lemmas.List.Sums.{sum_by-cons}
 use Rattle.std.specs.Prelude.{◌&&◌, nat_lt, nat_le, Bool}
-use Rattle.imsm_base.specs.declared.units.Sector.{Sector}
-use Rattle.member_bank.specs.declared.history.Asked.{Asked}
-use Rattle.member_bank.specs.declared.history.Asked.TheVariants as asked
+use Rattle.units.specs.declared.disk.Sector.{Sector}
+use Rattle.member_bank.specs.declared.history.NotedCall.{NotedCall}
+use Rattle.member_bank.specs.declared.history.NotedCall.TheVariants as asked
 use Rattle.member_bank.specs.declared.history.Note.{Note}
 use Rattle.device_log.specs.Log.{Call}
 use Rattle.member_bank.specs.declared.history.LogRoom.{LogRoom}
@@ -27,7 +27,7 @@ pub length-log_of : (ns : List Note) (ss : List Sector) → length (log_of ns ss
 length-log_of [] ss = refl
 length-log_of (n ∷ ns) ss = ap suc (length-log_of ns (drop (count_of n.asked) ss))
 
-asked-what_of : (a : Asked) (ss : List Sector) → length ss ≡ count_of a → sectors_asked (what_of a ss) ≡ count_of a
+asked-what_of : (a : NotedCall) (ss : List Sector) → length ss ≡ count_of a → sectors_asked (what_of a ss) ≡ count_of a
 asked-what_of (asked.Read place) ss same = refl
 asked-what_of (asked.Write place count stored) ss same = same
 asked-what_of asked.Sync ss same = refl

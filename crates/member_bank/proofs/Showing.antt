@@ -10,21 +10,22 @@ use Rattle.std.proofs.lemmas.List.Elements.{All-get_or}
 use Rattle.std.proofs.lemmas.Bool.{cases_lt, false≢true}
 use Rattle.std.specs.Prelude.{All, Vec}
 use Rattle.std.specs.declared.alloc.Global.{Global}
-use Rattle.imsm_base.specs.declared.bounds.TheConstants.{MAX_DISKS}
-use Rattle.imsm_base.specs.declared.units.Serial.{Serial}
+use Rattle.units.specs.declared.bounds.TheConstants.{MAX_DISKS}
+use Rattle.units.specs.declared.disk.Serial.{Serial}
 use Rattle.std.proofs.lemmas.Option.{slice_get-get_or, slice_get_within, same_Some, none-some}
 use Rattle.std.proofs.lemmas.Grind.{common_steps}
-use Rattle.imsm_base.specs.declared.units.Sector.{Sector}
+use Rattle.units.specs.declared.disk.Sector.{Sector}
 use Rattle.device_log.specs.Log.{Call, What, Write}
-use Rattle.device_log.specs.Cells.{Cell, Stands, cell_at, cell_called, cell_after, cell_synced, resting}
+use Rattle.device_log.specs.Cells.{Cell, Stands, cell_at, cell_called, cell_after, resting}
 use Rattle.member_bank.specs.declared.history.LogRoom.{LogRoom}
-use Rattle.member_bank.specs.declared.history.Asked.{Asked}
-use Rattle.member_bank.specs.declared.history.Asked.TheVariants as asked
+use Rattle.member_bank.specs.declared.history.NotedCall.{NotedCall}
+use Rattle.member_bank.specs.declared.history.NotedCall.TheVariants as asked
 use Rattle.member_bank.specs.Told.{Logs, LogsWrite}
 use Rattle.member_bank.specs.Contents.{Shows, laid, laid_on, sectors_of, sizes_of}
 use Rattle.member_bank.specs.History.{LogState, has_room, log_with, what_of}
 use Rattle.member_bank.specs.Memory.{MemState, IsLog, IsMemory, kept_next, stored_of, written}
 use Rattle.member_bank.proofs.Laying.{length-laid, stood_written}
+use Rattle.device_log.proofs.Cells.{synced_stood}
 
 pub after_append : (d p : ℕ) (c : Cell) (log : List Call) (call : Call) → cell_after d p c (log ++ call ∷ []) ≡ cell_called d p (cell_after d p c log) call
 after_append d p c [] call = refl
@@ -45,12 +46,8 @@ pub all_append : (P : Call → Type 0) (log : List Call) (call : Call) → AllBy
 all_append P [] call all one = (one, tt)
 all_append P (first ∷ log) call all one = (all.0, all_append P log call all.1 one)
 
-synced_stood : (c : Cell) (went : Bool) → (cell_synced c went).stood ≡ c.stood
-synced_stood c true = refl
-synced_stood c false = refl
-
 -- a call with no sectors leaves what stands
-quiet_at : (p : ℕ) (c : Cell) (a : Asked) (went : Bool) → (cell_at p c (what_of a []) went).stood ≡ c.stood
+quiet_at : (p : ℕ) (c : Cell) (a : NotedCall) (went : Bool) → (cell_at p c (what_of a []) went).stood ≡ c.stood
 quiet_at p c (asked.Read place) went = refl
 quiet_at p c (asked.Write place count stored) went = refl
 quiet_at p c asked.Sync went = synced_stood c went
@@ -59,7 +56,7 @@ when_here : (here : Bool) (a b : Cell) (s : Sector) → a.stood ≡ s → b.stoo
 when_here true a b s one other = one
 when_here false a b s one other = other
 
-pub quiet_log : (opening present : List (List Sector)) (log : List Call) (k : ℕ) (a : Asked) (went : Bool) → IsLog opening present log → k < length present
+pub quiet_log : (opening present : List (List Sector)) (log : List Call) (k : ℕ) (a : NotedCall) (went : Bool) → IsLog opening present log → k < length present
     → IsLog opening present (log ++ record { disk = k; what = what_of a []; went = went } ∷ [])
 quiet_log opening present log k a went was there = record {
   named = all_append (λ (c : Call). c.disk < length present) log (record { disk = k; what = what_of a []; went = went }) was.named there;
@@ -185,7 +182,7 @@ grown serials opening present faults log serial new was few apart =
       distinct = all_pairs_push (λ a b. a ≢ b) serials serial was.distinct (λ k d low. All-get_or (λ s. s ≢ serial) serials k d low apart);
     }
 
-pub asked_memory : (serials : List Serial) (opening present : List (List Sector)) (faults counts : List ℕ) (log : LogState) (k : ℕ) (a : Asked) (went : Bool)
+pub asked_memory : (serials : List Serial) (opening present : List (List Sector)) (faults counts : List ℕ) (log : LogState) (k : ℕ) (a : NotedCall) (went : Bool)
     → IsMemory serials opening present faults log.log → k < length present → length counts ≡ length faults
     → IsMemory serials opening present counts (log_with log.room log.log (record { disk = k; what = what_of a []; went = went }))
 asked_memory serials opening present faults counts log k a went was there same = record {

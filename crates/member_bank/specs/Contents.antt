@@ -1,8 +1,8 @@
 -- What stands on several disks. Source: this project's own.
 use Rattle.std.specs.Prelude.{◌≡◌, ℕ, ◌+◌, List, [], ◌++◌, map, length, take, drop, slice_set, slice_get, slice_index_or, Some, Vec}
 use Rattle.std.specs.declared.alloc.Global.{Global}
-use Rattle.imsm_base.specs.declared.units.Sector.{Sector}
-use Rattle.imsm_base.specs.declared.units.Serial.{Serial}
+use Rattle.units.specs.declared.disk.Sector.{Sector}
+use Rattle.units.specs.declared.disk.Serial.{Serial}
 use Rattle.device_log.specs.Log.{Call}
 use Rattle.device_log.specs.Cells.{Stands}
 use Rattle.member_bank.specs.declared.disks.MemDisk.{MemDisk}
@@ -13,7 +13,8 @@ pub record Contents : Type 0 where
   pub sectors : List (List Sector)
 
 abbrev pub contents_of : List MemDisk → Contents
-contents_of disks = record { serials = map (λ (d : MemDisk). d.serial) disks; sectors = map (λ (d : MemDisk). d.sectors.items) disks }
+contents_of disks =
+    record { serials = map (λ (d : MemDisk). d.serial) disks; sectors = map (λ (d : MemDisk). d.sectors.items) disks }
 
 abbrev pub sectors_of : List (Vec Sector Global) → List (List Sector)
 sectors_of disks = map (λ (d : Vec Sector Global). d.items) disks

@@ -1,7 +1,7 @@
 -- What contracts see of a bank over files. Source: this project's own.
 use Rattle.std.specs.Prelude.{◌≡◌, ◌≢◌, ◌≤◌, ◌<◌, ℕ, ◌*◌, ◌^◌, List, [], ◌∷◌, ◌++◌, length, All, AllPairs}
-use Rattle.imsm_base.specs.declared.bounds.TheConstants.{MAX_DISKS, SECTOR_BYTES}
-use Rattle.imsm_base.specs.declared.units.Serial.{Serial}
+use Rattle.units.specs.declared.bounds.TheConstants.{MAX_DISKS, SECTOR_BYTES}
+use Rattle.units.specs.declared.disk.Serial.{Serial}
 
 -- each disk's serial, its sectors, and how often it failed
 pub record FileState : Type 0 where

@@ -1,11 +1,11 @@
 -- A log in room that was taken at the start. Source: this project's own.
 use Rattle.std.specs.Prelude.{ℕ, ◌+◌, Bool, ◌&&◌, nat_lt, nat_le, if◌then◌else◌, List, [], ◌∷◌, ◌++◌, length, take, drop, sum_by, Option, Some, None}
-use Rattle.imsm_base.specs.declared.units.Sector.{Sector}
+use Rattle.units.specs.declared.disk.Sector.{Sector}
 use Rattle.device_log.specs.Log.{Call, What, Read, Write, Sync}
 use Rattle.member_bank.specs.declared.history.LogRoom.{LogRoom}
 use Rattle.member_bank.specs.declared.history.Note.{Note}
-use Rattle.member_bank.specs.declared.history.Asked.{Asked}
-use Rattle.member_bank.specs.declared.history.Asked.TheVariants as asked
+use Rattle.member_bank.specs.declared.history.NotedCall.{NotedCall}
+use Rattle.member_bank.specs.declared.history.NotedCall.TheVariants as asked
 
 -- the log, where it is told, and the room for it
 pub record LogState : Type 0 where
@@ -32,7 +32,7 @@ log_with room None call = None
 log_with room (Some log) call = if has_room room log call then Some (log ++ call ∷ []) else None
 
 -- the call that a note spells, with the sectors of its write
-abbrev pub what_of : Asked → List Sector → What
+abbrev pub what_of : NotedCall → List Sector → What
 what_of (asked.Read place) sectors = Read place
 what_of (asked.Write place count stored) sectors = Write place sectors stored
 what_of asked.Sync sectors = Sync
@@ -40,7 +40,7 @@ what_of asked.Sync sectors = Sync
 abbrev pub call_of : Note → List Sector → Call
 call_of n sectors = record { disk = n.disk; what = what_of n.asked sectors; went = n.went }
 
-abbrev pub count_of : Asked → ℕ
+abbrev pub count_of : NotedCall → ℕ
 count_of (asked.Read place) = 0
 count_of (asked.Write place count stored) = count
 count_of asked.Sync = 0

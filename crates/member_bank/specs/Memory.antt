@@ -2,9 +2,9 @@
 use Rattle.std.specs.Prelude.{◌≡◌, ◌≢◌, ◌≤◌, ◌<◌, ℕ, ◌==◌, min, Bool, List, [], ◌∷◌, ◌++◌, length, take, replicate, find, Option, Some, None, IfSome}
 use Rattle.std.specs.List.{AllByRecursion, AllPairs}
 use Rattle.std.specs.Option.{option_map}
-use Rattle.imsm_base.specs.declared.bounds.TheConstants.{MAX_DISKS}
-use Rattle.imsm_base.specs.declared.units.Sector.{Sector}
-use Rattle.imsm_base.specs.declared.units.Serial.{Serial}
+use Rattle.units.specs.declared.bounds.TheConstants.{MAX_DISKS}
+use Rattle.units.specs.declared.disk.Sector.{Sector}
+use Rattle.units.specs.declared.disk.Serial.{Serial}
 use Rattle.device_log.specs.Log.{Call, Write}
 use Rattle.member_bank.specs.declared.disks.MemDisk.{MemDisk}
 use Rattle.member_bank.specs.declared.history.LogRoom.{LogRoom}
@@ -81,7 +81,8 @@ pub record IsLog (opening present : List (List Sector)) (log : List Call) : Type
   pub shown : Shows opening log present
 
 -- what is kept of disks, counts and log fits together
-pub record IsMemory (serials : List Serial) (opening present : List (List Sector)) (faults : List ℕ) (log : Option (List Call)) : Type 0 where
+pub record IsMemory (serials : List Serial) (opening present : List (List Sector)) (faults : List ℕ)
+    (log : Option (List Call)) : Type 0 where
   pub told : IfSome log (IsLog opening present)
   pub few : length present ≤ MAX_DISKS
   pub named : length serials ≡ length present

@@ -1,6 +1,6 @@
 -- What a bank tells, before and after a call. A bank may stop telling, and never begins anew.
 use Rattle.std.specs.Prelude.{◌≡◌, ℕ, ◌≤◌, Bool, true, List, [], ◌∷◌, ◌++◌, length, Option, Some, None, ⊤}
-use Rattle.imsm_base.specs.declared.units.Sector.{Sector}
+use Rattle.units.specs.declared.disk.Sector.{Sector}
 use Rattle.device_log.specs.Log.{Call, Write}
 use Rattle.device_log.specs.Cells.{Stands}
 
@@ -19,7 +19,8 @@ LogsAll old new calls =
     (now : List Call) → new ≡ Some now → (before : List Call) × (old ≡ Some before) × (now ≡ before ++ calls)
 
 -- a write of these sectors is logged, of which so many were stored: all where it went through
-pub record LogsWrite (old new : Option (List Call)) (disk place : ℕ) (sectors : List Sector) (went : Bool) (stored : ℕ) : Type 0 where
+pub record LogsWrite (old new : Option (List Call)) (disk place : ℕ) (sectors : List Sector) (went : Bool)
+    (stored : ℕ) : Type 0 where
   pub few : stored ≤ length sectors
   pub all : went ≡ true → stored ≡ length sectors
   pub logs : Logs old new (record { disk = disk; what = Write place sectors stored; went = went })

@@ -3,7 +3,7 @@ ghost use Rattle.std.specs.Prelude.{◌≡◌, ◌<◌, length, slice_index, is_
 ghost use Rattle.member_bank.specs.Faults.{HasCause, faults_with, next_count};
 
 use crate::Failed;
-use imsm_base::DiskNo;
+use units::DiskNo;
 
 /// The count after this one.
 pub fn next(count: u64) -> u64

@@ -2,9 +2,9 @@
 ghost use Rattle.std.specs.Prelude.{◌≡◌, ◌+◌, ◌≤◌, ◌<◌, [], ◌∷◌, ◌++◌, length, Some, slice_get, slice_index_or, OnOk, OnErr};
 ghost use Rattle.member_bank.specs.Contents.{contents_of, laid, laid_on};
 
-use imsm_base::{Sector, Serial};
 use std::alloc::{AllocError, Global};
 use std::marker::Model;
+use units::{Sector, Serial};
 
 /// A disk in memory: its serial, and its sectors from the first on.
 #[derive(Debug, Drop)]
@@ -91,7 +91,10 @@ impl Disks {
 
     /// Adds a disk at the end. Without memory nothing changes.
     pub fn push(&mut self, disk: MemDisk) -> Result<(), AllocError>
-        ensures ok { OnOk result (self.new ≡ record { serials = self.old.serials ++ disk.serial ∷ []; sectors = self.old.sectors ++ disk.sectors.items ∷ [] }) }
+        ensures ok { OnOk result (self.new ≡ record {
+          serials = self.old.serials ++ disk.serial ∷ [];
+          sectors = self.old.sectors ++ disk.sectors.items ∷ [];
+        }) }
         ensures err { OnErr result (self.new ≡ self.old) }
     {
         self.disks.push(disk)?;

@@ -6,13 +6,13 @@ ghost use Rattle.member_bank.specs.declared.files.FileBankFault.TheVariants.{Mem
 
 use crate::counts::answer;
 use crate::{Bank, Failed};
-use imsm_base::{DiskNo, MAX_DISKS, SECTOR_BYTES, Sector, Serial};
 use std::alloc::{AllocError, Global};
 use std::fs::File;
 use std::io;
 use std::marker::Model;
 use std::os::unix::fs::FileExt;
 use thiserror::Error;
+use units::{DiskNo, MAX_DISKS, SECTOR_BYTES, Sector, Serial};
 
 /// Why a file couldn't be added.
 #[derive(Debug, Drop, Error)]

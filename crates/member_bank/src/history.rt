@@ -2,9 +2,9 @@
 ghost use Rattle.std.specs.Prelude.{◌≡◌, ◌+◌, ◌≤◌, ◌&&◌, nat_lt, nat_le, [], Some, length, IfOk};
 ghost use Rattle.member_bank.specs.History.{call_of, count_of, log_with};
 
-use imsm_base::Sector;
 use std::alloc::{AllocError, Global};
 use std::marker::Model;
+use units::Sector;
 
 /// The room of a log: how many calls it takes, and how many sectors their writes have together.
 #[derive(Clone, Copy, Debug, PartialEq, Eq)]
@@ -15,7 +15,7 @@ pub struct LogRoom {
 
 /// What was asked of a disk. The sectors of a write stand in the log's list of all of them.
 #[derive(Clone, Copy, Debug, PartialEq, Eq)]
-pub enum Asked {
+pub enum NotedCall {
     Read(u64),
     Write {
         place: u64,
@@ -29,7 +29,7 @@ pub enum Asked {
 #[derive(Clone, Copy, Debug, PartialEq, Eq)]
 pub struct Note {
     pub disk: u8,
-    pub asked: Asked,
+    pub asked: NotedCall,
     pub went: bool,
 }
 
@@ -48,7 +48,10 @@ impl Model for History {
 
     ghost Value = { LogState };
 
-    ghost view = { λ h. record { log = if h.is_told then Some (log_of h.notes.items h.written.items) else None; room = h.room } };
+    ghost view = { λ h. record {
+      log = if h.is_told then Some (log_of h.notes.items h.written.items) else None;
+      room = h.room;
+    } };
 
     ghost invariant = { λ h. (length h.notes.items ≤ h.room.calls) × (h.room.calls ≤ vec_capacity h.notes)
         × (length h.written.items ≤ h.room.sectors) × (h.room.sectors ≤ vec_capacity h.written)

@@ -1,10 +1,17 @@
-//! Devices by what was asked of them.
+//! Devices by what was asked of them: the trait `Bank`, a bank in memory whose calls fail as a list says, and a bank
+//! over files.
+//!
+//! Every bank owes that each call is logged where the log is told, that a read gives what stands there by that log,
+//! and that a call fails only where the disk's count of faults rose or stands at its last value. The bank in memory
+//! owes just what it holds and tells; what files hold no clause says. No device call takes memory.
+//!
+//! Whatever reads or writes disks is generic over `Bank`: `mpb_store`, `stage`, and the commands above.
 #![tactic(auto)]
 
 ghost use Rattle.std.specs.Prelude.{◌≡◌, ◌≢◌, ℕ, ◌+◌, ◌<◌, ◌≤◌, List, Option, is_ok, length, map, OnOk, OnErr, IfSome, Some, slice_index, slice_get};
 ghost use Rattle.std.specs.List.{AllPairs};
-ghost use Rattle.imsm_base.specs.declared.units.Sector.{Sector as SectorBytes};
-ghost use Rattle.imsm_base.specs.declared.units.Serial.{Serial as SerialBytes};
+ghost use Rattle.units.specs.declared.disk.Sector.{Sector as SectorBytes};
+ghost use Rattle.units.specs.declared.disk.Serial.{Serial as SerialBytes};
 ghost use Rattle.device_log.specs.Log.{Call, Read, Sync};
 ghost use Rattle.member_bank.specs.Told.{Keeps, Logs, LogsWrite, Gives};
 ghost use Rattle.member_bank.specs.Faults.{HasCause};
@@ -18,8 +25,8 @@ mod memory;
 pub use disks::MemDisk;
 pub use files::{FileBank, FileBankFault};
 pub use history::LogRoom;
-use imsm_base::{DiskNo, MAX_DISKS, MAX_WRITE_SECTORS, Sector, Serial};
 pub use memory::{BankFault, FailAt, MemBank};
+use units::{DiskNo, MAX_DISKS, MAX_WRITE_SECTORS, Sector, Serial};
 
 /// A device call that didn't go through.
 #[derive(Clone, Copy, Debug, PartialEq, Eq)]
@@ -69,7 +76,11 @@ pub trait Bank {
     fn read(&mut self, d: DiskNo, place: u64, into: &mut Sector) -> Result<(), Failed>
         requires disk { d.0 < length (sizes self.old) }
         requires place { place < slice_index (sizes self.old) d.0 }
-        ensures logs { Logs (log self.old) (log self.new) (record { disk = d.0; what = Read place; went = is_ok result }) }
+        ensures logs { Logs (log self.old) (log self.new) (record {
+          disk = d.0;
+          what = Read place;
+          went = is_ok result;
+        }) }
         ensures opening { Keeps (opening self.old) (opening self.new) }
         ensures gives { OnOk result (Gives (opening self.new) (log self.new) d.0 place into.new) }
         ensures kept { OnErr result (into.new ≡ into.old) }

@@ -10,12 +10,12 @@ ghost use Rattle.member_bank.specs.Memory.{opened, with_disk, called, kept_at as
 
 use crate::counts::{answer, next};
 use crate::disks::{Disks, MemDisk};
-use crate::history::{Asked, History, LogRoom, Note};
+use crate::history::{History, LogRoom, Note, NotedCall};
 use crate::{Bank, Failed};
-use imsm_base::{DiskNo, MAX_DISKS, Sector, Serial};
 use std::alloc::{AllocError, Global};
 use std::marker::Model;
 use thiserror::Error;
+use units::{DiskNo, MAX_DISKS, Sector, Serial};
 
 /// A device call that is to fail, by its number, which counts from 1. A write stores its first `kept` sectors all the
 /// same, or all where it has fewer.
@@ -66,7 +66,8 @@ impl Model for MemBank {
       room = b.history.room;
     } };
 
-    ghost invariant = { λ b. IsMemory b.present.serials (sectors_of b.opening.items) b.present.sectors b.faults.items b.history.log };
+    ghost invariant = { λ b. IsMemory b.present.serials (sectors_of b.opening.items) b.present.sectors
+        b.faults.items b.history.log };
 }
 
 /// The sectors of each disk.
@@ -151,11 +152,15 @@ impl MemBank {
     }
 
     /// Makes a call that changes no contents.
-    fn ask(&mut self, d: DiskNo, asked: Asked) -> Result<(), Failed>
+    fn ask(&mut self, d: DiskNo, asked: NotedCall) -> Result<(), Failed>
         requires disk { d.0 < length self.old.present }
         requires no_sectors { count_of asked ≡ 0 }
         ensures answer { is_ok result ≡ is_none (kept_next self.old) }
-        ensures called { self.new ≡ called self.old (record { disk = d.0; what = what_of asked []; went = is_ok result }) }
+        ensures called { self.new ≡ called self.old (record {
+          disk = d.0;
+          what = what_of asked [];
+          went = is_ok result;
+        }) }
         ensures cause { HasCause (λ k. slice_index self.old.faults k) (λ k. slice_index self.new.faults k) d.0 result }
     {
         self.calls = next(self.calls);
@@ -181,7 +186,7 @@ impl MemBank {
         let kept = kept_at(&self.fails, self.calls);
         let stored = stored(kept, from.len());
         let went = kept.is_none();
-        let asked = Asked::Write {
+        let asked = NotedCall::Write {
             place,
             count: from.len(),
             stored,
@@ -239,7 +244,7 @@ impl Bank for MemBank {
         ensures serials { self.new.serials ≡ self.old.serials }
         ensures cause { HasCause (λ k. slice_index self.old.faults k) (λ k. slice_index self.new.faults k) d.0 result }
     {
-        self.ask(d, Asked::Read(place))?;
+        self.ask(d, NotedCall::Read(place))?;
         *into = self.present.get(d.0 as usize, place as usize);
         Ok(())
     }
@@ -268,6 +273,6 @@ impl Bank for MemBank {
         ensures serials { self.new.serials ≡ self.old.serials }
         ensures cause { HasCause (λ k. slice_index self.old.faults k) (λ k. slice_index self.new.faults k) d.0 result }
     {
-        self.ask(d, Asked::Sync)
+        self.ask(d, NotedCall::Sync)
     }
 }
