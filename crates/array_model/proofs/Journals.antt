@@ -1,5 +1,5 @@
 -- Journals and logs that grow.
-use Rattle.std.proofs.Common.{◌≡◌, ℕ, ◌+◌, ◌≤◌, ◌||◌, Bool, List, [], ◌∷◌, ◌++◌, length, take, sym, subst, arith, append_assoc}
+use Rattle.std.proofs.Common.{◌≡◌, ℕ, ◌+◌, ◌≤◌, ◌||◌, Bool, List, [], ◌∷◌, ◌++◌, length, take, sym, subst, arith, append_assoc, ◌⊎◌, inl, inr, refl}
 use Rattle.std.specs.List.{AllByRecursion}
 use Rattle.std.proofs.lemmas.List.{append-nil, take-append-le}
 use Rattle.std.proofs.lemmas.List.Sums.{sum_by-append}
@@ -55,3 +55,9 @@ below_later c d (x ∷ xs) le h = (omega (arith, h.0), below_later c d xs le h.1
 pub each_call : (P : ℕ → Call → Type 0) (Q : Call → Type 0) → ((k : ℕ) (call : Call) → Q call → P k call) → (k : ℕ) (log : List Call) → AllByRecursion Q log → EachCallFrom P k log
 each_call P Q f k [] h = tt
 each_call P Q f k (x ∷ xs) h = (f k x h.0, each_call P Q f (k + 1) xs h.1)
+
+-- a list of one entry has two fronts
+pub fronts_of_one : (e : Entry) (front rest : List Entry) → e ∷ [] ≡ front ++ rest → (front ≡ []) ⊎ (front ≡ e ∷ [])
+fronts_of_one e [] rest h = inl refl
+fronts_of_one e (x ∷ []) rest h = inr (let same : e ≡ x = cc h in subst (λ y. x ∷ [] ≡ y ∷ []) (sym same) refl)
+fronts_of_one e (x ∷ y ∷ more) rest h = absurd cc

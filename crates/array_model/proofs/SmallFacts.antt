@@ -10,6 +10,7 @@ use Rattle.array_model.specs.Candidates.{Disk, Durable, disk_after}
 use Rattle.array_model.specs.declared.journal.Event.{Event}
 use Rattle.array_model.specs.declared.journal.Event.TheVariants.{Ready, Pending, Active, Clean}
 use Rattle.array_model.specs.Events.{has, is_active, is_live, live_at}
+use Rattle.array_model.specs.Rounds.{DurableOnWorking}
 use Rattle.array_model.specs.WriteGate.{IsDirty, DirtyWhileLive}
 use Rattle.array_model.specs.Small.{small_start, small_slot, small_words, small_disks, worked_log}
 
@@ -62,10 +63,18 @@ in_range test (suc n) a c from until h =
 abbrev pub dirty_on : List Call → ℕ → Bool
 dirty_on log d = says (λ m. small_words.is_dirty m 0) (disk_after small_words small_disks log d)
 
+-- no member works but the two disks
+pub on_both : (P : Laid → Type 0) (log : List Call) (journal : List Entry) → Durable P (disk_after small_words small_disks log 0)
+    → Durable P (disk_after small_words small_disks log 1) → DurableOnWorking small_start log journal P
+on_both P log journal first second m finished zero working = first
+on_both P log journal first second m finished (suc zero) working = second
+on_both P log journal first second m finished (suc (suc d)) working = absurd (let no_such : false ≡ true = working.expected in cc no_such)
+
 pub dirty_on_both : (log : List Call) (journal : List Entry) → dirty_on log 0 ≡ true → dirty_on log 1 ≡ true → IsDirty small_start log journal 0
-dirty_on_both log journal first second m finished zero working = durable_of (λ m. small_words.is_dirty m 0) (disk_after small_words small_disks log 0) first
-dirty_on_both log journal first second m finished (suc zero) working = durable_of (λ m. small_words.is_dirty m 0) (disk_after small_words small_disks log 1) second
-dirty_on_both log journal first second m finished (suc (suc d)) working = absurd (let no_such : false ≡ true = working.expected in cc no_such)
+dirty_on_both log journal first second =
+    on_both (λ m. small_words.is_dirty m 0 ≡ true) log journal
+    (durable_of (λ m. small_words.is_dirty m 0) (disk_after small_words small_disks log 0) first)
+    (durable_of (λ m. small_words.is_dirty m 0) (disk_after small_words small_disks log 1) second)
 
 live_at_false : (v : ℕ) (e : Event) → is_active v e ≡ false → live_at v false e ≡ false
 live_at_false v (Ready w) h = at (w.0 == v)

@@ -3,12 +3,12 @@ use Rattle.std.proofs.Common.{◌≡◌, ℕ, zero, suc, ◌==◌, ◌||◌, Boo
 use Rattle.std.specs.Prelude.{slice_get}
 use Rattle.std.specs.Str.{bytes_eq}
 use Rattle.std.proofs.lemmas.Bool.Decides.{nat_tests}
+use Rattle.std.proofs.lemmas.Bool.{and_parts}
 use Rattle.array_model.specs.declared.journal.Entry.{Entry}
 use Rattle.array_model.specs.Blocks.{Laid, SlotWords}
 use Rattle.array_model.specs.Rounds.{is_lost}
-use Rattle.array_model.specs.FailureLaw.{Keeps}
+use Rattle.array_model.specs.FailureLaw.{KeepsMembers}
 use Rattle.array_model.specs.Small.{small_start, small_disks, is_either, small_expects, small_slot, small_slots}
-use Rattle.array_model.proofs.Written.{split_and}
 
 -- expected, or lost by a fault
 abbrev pub Stays : List Entry → Laid → List ℕ → Type 0
@@ -17,10 +17,10 @@ Stays front m serial = (small_expects m serial ≡ true) ⊎ (is_lost small_disk
 one_byte : (b : ℕ) (serial : List ℕ) → bytes_eq serial (b ∷ []) ≡ true → serial ≡ b ∷ []
 one_byte b [] h = absurd cc
 one_byte b (x ∷ []) h =
-    let same : (x == b) ≡ true = (split_and (x == b) true h).0 in
+    let same : (x == b) ≡ true = (and_parts (x == b) true h).0 in
     let is : x ≡ b = grind (arith, nat_tests, same) in
     cc is
-one_byte b (x ∷ y ∷ more) h = absurd (let none : false ≡ true = (split_and (x == b) false h).1 in cc none)
+one_byte b (x ∷ y ∷ more) h = absurd (let none : false ≡ true = (and_parts (x == b) false h).1 in cc none)
 
 either : (serial : List ℕ) → is_either serial ≡ true → (serial ≡ 65 ∷ []) ⊎ (serial ≡ 66 ∷ [])
 either serial h = at (bytes_eq serial (65 ∷ [])) refl (bytes_eq serial (66 ∷ [])) refl h
@@ -52,9 +52,9 @@ slot_stays front m last first (inr lost) (suc zero) before h =
     inr (subst (λ (s : SlotWords). is_lost small_disks s.serial front ≡ true) is lost)
 slot_stays front m last first second (suc (suc k)) before h = absurd cc
 
-pub keeps_small : (front : List Entry) (last m : Laid) → Stays front m (65 ∷ []) → Stays front m (66 ∷ []) → Keeps small_start front last m
+pub keeps_small : (front : List Entry) (last m : Laid) → Stays front m (65 ∷ []) → Stays front m (66 ∷ []) → KeepsMembers small_start front last m
 keeps_small front last m first second = record {
-  expected = λ serial h. stays front m first second serial (split_and (is_either serial) _ h).0;
+  expected = λ serial h. stays front m first second serial (and_parts (is_either serial) _ h).0;
   in_sync = λ v slot before there h sync.
       let zero_is : 0 ≡ v = grind (arith, nat_tests, there) in
       let moved = subst (λ w. slice_get (small_slots last w) slot ≡ Some before) (sym zero_is) h in

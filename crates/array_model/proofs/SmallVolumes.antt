@@ -1,5 +1,5 @@
 -- The slots of a small volume, and volumes that no failure broke.
-use Rattle.std.proofs.Common.{◌≡◌, ℕ, zero, suc, ◌==◌, Bool, true, false, if◌then◌else◌, List, [], ◌∷◌, ◌++◌, refl, sym, subst, ◌⊎◌, inl, inr, Some, None}
+use Rattle.std.proofs.Common.{◌≡◌, ℕ, zero, suc, ◌==◌, Bool, true, false, if◌then◌else◌, List, [], ◌∷◌, refl, sym, subst, ◌⊎◌, inl, inr, Some, None}
 use Rattle.std.specs.Prelude.{slice_get}
 use Rattle.device_log.specs.Log.{Call}
 use Rattle.array_model.specs.declared.journal.Entry.{Entry}
@@ -11,6 +11,7 @@ use Rattle.array_model.specs.Broken.{IsBroken, TornParity, is_short}
 use Rattle.array_model.specs.AnswerLaw.{IsInOrder}
 use Rattle.array_model.specs.SmallFailures.{whole_script, answered}
 use Rattle.array_model.specs.Small.{small_slot, small_slots}
+use Rattle.array_model.proofs.Journals.{fronts_of_one}
 
 -- a slot of the volume is its first or its second
 pub in_slot : (m : Laid) (v slot : ℕ) (words : SlotWords) → slice_get (small_slots m v) slot ≡ Some words → (small_slot m 0 (65 ∷ []) ≡ words) ⊎ (small_slot m 1 (66 ∷ []) ≡ words)
@@ -26,11 +27,6 @@ in_slot m v slot words h = at (v == 0) slot h
 -- where no round has ended the block is the newest at opening
 pub newest_block : (start : Start) (log : List Call) (front : List Entry) (m : Laid) → ended front ≡ None → IsFinished start log front m → m ≡ start.newest
 newest_block start log front m none h = subst (IsFinishedBy start log front m) none h
-
-fronts_of_one : (e : Entry) (front rest : List Entry) → e ∷ [] ≡ front ++ rest → (front ≡ []) ⊎ (front ≡ e ∷ [])
-fronts_of_one e [] rest h = inl refl
-fronts_of_one e (x ∷ []) rest h = inr (let same : e ≡ x = cc h in subst (λ y. x ∷ [] ≡ y ∷ []) (sym same) refl)
-fronts_of_one e (x ∷ y ∷ more) rest h = absurd cc
 
 -- a volume isn't broken by one entry that ends no round, where its members suffice before and behind it
 pub not_broken : (start : Start) (e : Entry) (v : ℕ) → ended_at None e.event ≡ None → is_short start [] start.newest v ≡ false

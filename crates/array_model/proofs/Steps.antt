@@ -4,6 +4,7 @@ use Rattle.std.specs.Prelude.{count_by, filter, flat_map}
 use Rattle.std.specs.List.{AllByRecursion, range_with_len, cons_option}
 use Rattle.std.proofs.lemmas.Bool.Decides.{nat_tests}
 use Rattle.std.proofs.lemmas.List.Sums.{sum_by-append}
+use Rattle.std.proofs.lemmas.Bool.{eq-eqb}
 use Rattle.array_model.specs.declared.script.Op.{Op}
 use Rattle.array_model.specs.declared.journal.Entry.{Entry}
 use Rattle.array_model.specs.declared.journal.Event.{Event}
@@ -182,14 +183,8 @@ is_any_step _ _ = false
 
 -- a step is one of an operation that it names
 named_once : (ops : List Op) (b : Bool) (event : Event) → NamesOp ops event → number (is_any_step b event) ≤ total (λ i. number (tells_step b i event)) (length ops)
-named_once ops true (Ack j answer) named = total_one (λ i. number (j == i)) j (length ops) named (let here : number (j == j) ≡ 1 = ap number (itself j) in omega (arith, here))
-  where
-    itself : (n : ℕ) → (n == n) ≡ true
-    itself n = grind (arith, nat_tests)
-named_once ops false (Submit j) named = total_one (λ i. number (j == i)) j (length ops) named (let here : number (j == j) ≡ 1 = ap number (itself j) in omega (arith, here))
-  where
-    itself : (n : ℕ) → (n == n) ≡ true
-    itself n = grind (arith, nat_tests)
+named_once ops true (Ack j answer) named = total_one (λ i. number (j == i)) j (length ops) named (let here : number (j == j) ≡ 1 = ap number (eq-eqb j j refl) in omega (arith, here))
+named_once ops false (Submit j) named = total_one (λ i. number (j == i)) j (length ops) named (let here : number (j == j) ≡ 1 = ap number (eq-eqb j j refl) in omega (arith, here))
 named_once ops true _ named = omega arith
 named_once ops false _ named = omega arith
 

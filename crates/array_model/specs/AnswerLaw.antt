@@ -2,9 +2,9 @@
 -- where the volume is. Source: this project's own.
 use Rattle.std.specs.Prelude.{◌≡◌, ℕ, ◌+◌, ◌<◌, ◌≤◌, ◌==◌, ◌||◌, Bool, true, false, List, [], ◌∷◌, ◌++◌, length, filter, filter_map, flat_map, take, slice_get, bit_xor, Option, Some, None, if◌then◌else◌, ⊤, ◌⊎◌}
 use Rattle.std.specs.List.{AllByRecursion, range_with_len}
-use Rattle.imsm_base.specs.declared.units.Sector.{Sector}
-use Rattle.imsm_base.specs.declared.units.Level.TheVariants.{Five}
-use Rattle.imsm_base.specs.declared.bounds.TheConstants.{METADATA_SECTORS}
+use Rattle.units.specs.declared.disk.Sector.{Sector}
+use Rattle.units.specs.declared.volume.Level.TheVariants.{Five}
+use Rattle.units.specs.declared.bounds.TheConstants.{METADATA_SECTORS}
 use Rattle.device_log.specs.Log.{Call, What, Read, Write, Sync}
 use Rattle.array_model.specs.declared.script.Op.{Op}
 use Rattle.array_model.specs.declared.script.OpKind.{OpKind}
@@ -135,8 +135,9 @@ ReadsInSync start log journal before d Sync = ⊤
 -- WHOLE
 
 -- each slot is in sync on a disk without a fault, and no pass is open
-pub record IsWhole (start : Start) (front : List Entry) (m : Laid) (v : ℕ) : Type 0 where
-  pub slots : AllByRecursion (λ s. (s.is_in_sync ≡ true) × (is_lost start.disks s.serial front ≡ false)) (start.words.slots m v)
+pub record IsVolumeWhole (start : Start) (front : List Entry) (m : Laid) (v : ℕ) : Type 0 where
+  pub slots : AllByRecursion (λ s. (s.is_in_sync ≡ true) × (is_lost start.disks s.serial front ≡ false))
+      (start.words.slots m v)
   pub idle : start.words.pass m v ≡ None
 
 -- a slot of the volume, whose disk's record has this index, on a disk that isn't expected
@@ -176,7 +177,8 @@ is_posted_as n (Posted k) = k == n
 is_posted_as n _ = false
 
 -- a disk of the volume failed, and nothing is on its way to take its place
-pub record IsWithoutSpare (start : Start) (asked : Asked) (log : List Call) (front : List Entry) (m : Laid) (v : ℕ) : Type 0 where
+pub record IsWithoutSpare (start : Start) (asked : Asked) (log : List Call) (front : List Entry) (m : Laid)
+    (v : ℕ) : Type 0 where
   pub index : ℕ
   pub failed : HasFailed start m v index
   pub idle : start.words.pass m v ≡ None
@@ -185,7 +187,7 @@ pub record IsWithoutSpare (start : Start) (asked : Asked) (log : List Call) (fro
   pub none : (d : ℕ) → Serves start log front m d → ⊥
 
 abbrev pub WholeBy : Start → Asked → List Call → List Entry → Laid → ℕ → Answer → Type 0
-WholeBy start asked log front m v Done = IsWhole start front m v
+WholeBy start asked log front m v Done = IsVolumeWhole start front m v
 WholeBy start asked log front m v NoSpare = IsWithoutSpare start asked log front m v
 WholeBy start asked log front m v (Value x) = ⊤
 WholeBy start asked log front m v Past = ⊤

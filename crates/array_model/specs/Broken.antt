@@ -1,9 +1,9 @@
 -- A volume that its failures broke. Source: md.rst (a volume runs while enough of its members are in sync); that a
 -- parity volume also breaks where it isn't consistent yet is this project's own.
 use Rattle.std.specs.Prelude.{◌≡◌, ℕ, ◌==◌, ◌&&◌, ◌||◌, not, Bool, true, false, List, [], ◌∷◌, ◌++◌, map, take, Option, Some, None, ◌⊎◌}
-use Rattle.imsm_base.specs.declared.units.Level.TheVariants.{Five}
-use Rattle.imsm_base.specs.declared.units.DiskNo.{DiskNo}
-use Rattle.imsm_base.specs.Volumes.{suffices}
+use Rattle.units.specs.declared.volume.Level.TheVariants.{Five}
+use Rattle.units.specs.declared.disk.DiskNo.{DiskNo}
+use Rattle.units.specs.Levels.{suffices}
 use Rattle.device_log.specs.Log.{Call}
 use Rattle.array_model.specs.declared.journal.Entry.{Entry}
 use Rattle.array_model.specs.declared.journal.Event.TheVariants.{Fault}

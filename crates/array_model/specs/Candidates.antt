@@ -3,9 +3,9 @@
 -- the anchor).
 use Rattle.std.specs.Prelude.{◌≡◌, ℕ, zero, suc, ◌+◌, ◌-◌, ◌≤◌, ◌==◌, ◌&&◌, nat_le, max, Bool, true, false, List, [], ◌∷◌, length, Option, Some, None, if◌then◌else◌, ◌⊎◌}
 use Rattle.std.specs.List.{AllByRecursion, list_any}
-use Rattle.imsm_base.specs.declared.units.Sector.{Sector}
-use Rattle.imsm_base.specs.declared.bounds.TheConstants.{METADATA_SECTORS}
-use Rattle.imsm_base.specs.Whole.{anchor_place}
+use Rattle.units.specs.declared.disk.Sector.{Sector}
+use Rattle.units.specs.declared.bounds.TheConstants.{METADATA_SECTORS}
+use Rattle.units.specs.Places.{anchor_place}
 use Rattle.device_log.specs.Log.{Call, What, Read, Write, Sync}
 use Rattle.device_log.specs.Cells.{Cell, resting, cell_at}
 use Rattle.array_model.specs.Blocks.{Laid, Words, laid_eq, block_of, is_container}
@@ -82,7 +82,8 @@ best_with true best generation = max best generation
 -- a sync is counted where it finds a whole block that stood there at opening or was written since
 abbrev pub counted : Words → Disk → Laid → Bool → Disk
 counted W k m false = k
-counted W k m true = record k { candidates = m ∷ []; best = best_with (is_container W m) k.best (W.generation m.anchor) }
+counted W k m true =
+    record k { candidates = m ∷ []; best = best_with (is_container W m) k.best (W.generation m.anchor) }
 
 abbrev pub synced : Words → List ℕ → ℕ → Disk → Bool → Disk
 synced W serial n k false = k
@@ -148,4 +149,6 @@ mark W disks log = mark_below disks.count (disk_after W disks log)
 -- the blocks that a log writes to disk d
 abbrev pub writes : Words → Disks → ℕ → List Call → List Laid
 writes W disks d log =
-    (disk_from W disks d (record { cells = λ p. resting (record { 0 = [] }); pend = []; known = []; candidates = []; best = 0 }) log).known
+    (disk_from W disks d
+    (record { cells = λ p. resting (record { 0 = [] }); pend = []; known = []; candidates = []; best = 0 })
+    log).known

@@ -47,12 +47,6 @@ course_from course (e ∷ es) = course_from (course_at course e.event) es
 abbrev pub course_of : List Entry → Course
 course_of journal = course_from NoRound journal
 
--- no round goes on
-abbrev pub IsBetween : Course → Type 0
-IsBetween NoRound = ⊤
-IsBetween (GoesOn g) = ⊥
-IsBetween Over = ⊤
-
 -- ARRAY STATES
 
 -- the state of a volume that a journal tells; closed before its ready
@@ -117,6 +111,63 @@ IsAskedFor start ops front (Some (Write v s value)) = IsReady start ops front v.
 IsAskedFor start ops front (Some (Read v s)) = IsReady start ops front v.0
 IsAskedFor start ops front (Some (Whole v)) = IsReady start ops front v.0
 
+-- WHEN A ROUND IS DUE
+
+-- in these states a round's block is dirty
+abbrev pub needs_dirty : Told → Bool
+needs_dirty ToldClosed = false
+needs_dirty ToldReadAuto = false
+needs_dirty ToldClean = false
+needs_dirty ToldPending = true
+needs_dirty ToldActive = true
+needs_dirty ToldIdle = true
+
+abbrev pub recorded_at : Told → Bool → Event → Bool
+recorded_at told recorded (Begin g) = needs_dirty told
+recorded_at told recorded _ = recorded
+
+abbrev pub recorded_from : Start → List Op → Told → Bool → List Entry → Bool
+recorded_from start ops told recorded [] = recorded
+recorded_from start ops told recorded (e ∷ es) =
+    recorded_from start ops (told_at start ops 0 told e.event) (recorded_at told recorded e.event) es
+
+-- the dirty bit of volume 0 in the block of the round begun last
+abbrev pub recorded_of : Start → List Op → List Entry → Bool
+recorded_of start ops journal = recorded_from start ops ToldClosed false journal
+
+-- a round is due where the volume is write-pending and was recorded as clean, and where it is read-auto or clean and
+-- was recorded as dirty
+abbrev pub IsDueIn : Told → Bool → Type 0
+IsDueIn ToldClosed recorded = ⊥
+IsDueIn ToldReadAuto recorded = recorded ≡ true
+IsDueIn ToldClean recorded = recorded ≡ true
+IsDueIn ToldPending recorded = recorded ≡ false
+IsDueIn ToldActive recorded = ⊥
+IsDueIn ToldIdle recorded = ⊥
+
+-- and once before all else
+abbrev pub IsDueBy : Course → Told → Bool → Type 0
+IsDueBy NoRound told recorded = ⊤
+IsDueBy (GoesOn g) told recorded = ⊥
+IsDueBy Over told recorded = IsDueIn told recorded
+
+abbrev pub IsDue : Start → List Op → List Entry → Type 0
+IsDue start ops front = IsDueBy (course_of front) (told_of start ops front 0) (recorded_of start ops front)
+
+-- SUBMITS
+
+abbrev pub wakes_at : Start → List Op → ℕ → Event → Bool
+wakes_at start ops v (Submit i) = is_write_inside start ops v i
+wakes_at start ops v _ = false
+
+abbrev pub wakes_from : Start → List Op → ℕ → Bool → List Entry → Bool
+wakes_from start ops v wakes [] = wakes
+wakes_from start ops v wakes (e ∷ es) = wakes_from start ops v (wakes_at start ops v e.event) es
+
+-- the last entry submits a write to a sector of the volume
+abbrev pub is_woken : Start → List Op → List Entry → ℕ → Bool
+is_woken start ops journal v = wakes_from start ops v false journal
+
 -- each write to the volume that was submitted was answered
 abbrev pub AreAnswered : Start → List Op → List Entry → ℕ → Type 0
 AreAnswered start ops journal v =
@@ -159,17 +210,18 @@ IsAnswerTo start front (Some (Whole v)) answer = WholeAnswer answer
 
 -- THE LAW
 
--- The cause of an entry behind a front of the journal. A round begins where none goes on, with the next generation, and
--- the round that goes on ends. Ready comes once a round has ended, the states follow one another, and operations are
--- submitted once their volume is ready; the form of the journal and the order of answers say more of them. Entries of
+-- The cause of an entry behind a front of the journal. A round begins where one is due and none goes on, with the next
+-- generation, and the round that goes on ends. A volume is write-pending right behind the submit of a write to it. Ready and active come where the last round has ended, the states follow one another, and
+-- operations are submitted once their volume is ready; the form of the journal and the order of answers say more of them. Entries of
 -- failures, passes, updates and takeovers have no cause today: a failed call ends the run, and there are none of the
 -- others.
 abbrev pub IsCaused : Start → List Op → List Entry → Event → Type 0
-IsCaused start ops front (Begin g) = IsBetween (course_of front) × (g ≡ note_of start front + 1)
+IsCaused start ops front (Begin g) = IsDue start ops front × (g ≡ note_of start front + 1)
 IsCaused start ops front (End g) = course_of front ≡ GoesOn g
 IsCaused start ops front (Ready v) = IsTold start ops front v.0 ToldClosed × (course_of front ≡ Over)
-IsCaused start ops front (Pending v) = IsTold start ops front v.0 ToldReadAuto ⊎ IsTold start ops front v.0 ToldClean
-IsCaused start ops front (Active v) = IsTold start ops front v.0 ToldPending
+IsCaused start ops front (Pending v) =
+    (IsTold start ops front v.0 ToldReadAuto ⊎ IsTold start ops front v.0 ToldClean) × (is_woken start ops front v.0 ≡ true)
+IsCaused start ops front (Active v) = IsTold start ops front v.0 ToldPending × (course_of front ≡ Over)
 IsCaused start ops front (Idle v) = IsTold start ops front v.0 ToldActive × AreAnswered start ops front v.0
 IsCaused start ops front (Clean v) = IsTold start ops front v.0 ToldIdle
 IsCaused start ops front (Submit i) = IsAskedFor start ops front (kind_at ops i)

@@ -94,7 +94,8 @@ pub record KeepsCounts (start : Start) (asked : Asked) (journal : List Entry) : 
   pub ends : count is_end journal ≤ count is_begin journal
   pub spares : count is_spare journal ≤ count is_applied journal
   pub settled : count is_settled journal ≤ count is_posted journal
-  pub posts : count is_posted journal ≤ length asked.asks + start.disks.count + count is_any_fault journal + 2 * count is_kill journal
+  pub posts : count is_posted journal ≤ length asked.asks + start.disks.count + count is_any_fault journal
+      + 2 * count is_kill journal
   pub begins : count is_begin journal ≤ 2 + causes journal
   pub in_turn : AtEach (λ front e. PendingAfter asked.ops front e.stamp e.event) journal
   pub passes : AtEach (λ front e. PassAfter start asked front e.event) journal

@@ -1,7 +1,7 @@
 -- Failures: no write is acknowledged past a failure that isn't recorded, no failed call is hidden, a round forgets no
 -- healthy member, and a checkpoint doesn't stay behind its pass. Source: mdmon-design.txt (a write to a failed member
 -- waits until the metadata records the failure and "-blocked" is written); the rest is this project's own.
-use Rattle.std.specs.Prelude.{◌≡◌, ℕ, ◌+◌, ◌*◌, ◌/◌, ◌<◌, ◌≤◌, ◌==◌, ◌&&◌, nat_le, Bool, true, false, List, [], ◌∷◌, ◌++◌, take, slice_get, Option, Some, None, IsSome, if◌then◌else◌, ⊤, ◌⊎◌}
+use Rattle.std.specs.Prelude.{◌≡◌, ℕ, ◌+◌, ◌*◌, ◌/◌, ◌<◌, ◌≤◌, ◌==◌, ◌&&◌, nat_le, Bool, true, false, List, [], ◌∷◌, ◌++◌, length, take, slice_get, Option, Some, None, IsSome, if◌then◌else◌, ⊤, ◌⊎◌}
 use Rattle.std.specs.List.{AllByRecursion, list_any}
 use Rattle.device_log.specs.Log.{Call, Read}
 use Rattle.array_model.specs.declared.script.Op.{Op}
@@ -10,7 +10,7 @@ use Rattle.array_model.specs.declared.journal.Event.{Event}
 use Rattle.array_model.specs.declared.journal.Event.TheVariants.{Begin, Pass, Ack, Applied, Fault, Kill, Takeover}
 use Rattle.array_model.specs.Script.{Target, write_at, kind_at, names_sector}
 use Rattle.array_model.specs.Events.{AtEach, has, is_submit, is_done, is_fault, is_faulty, last_stamp}
-use Rattle.array_model.specs.Moments.{IsMoment, EachCall}
+use Rattle.array_model.specs.Moments.{IsMoment, AllBelow, EachCall}
 use Rattle.array_model.specs.Placement.{Place, place_of}
 use Rattle.array_model.specs.Blocks.{Laid, SlotWords}
 use Rattle.array_model.specs.Rounds.{IsFinished, IsRound, DurableOnWorking, is_lost}
@@ -31,7 +31,8 @@ InPlace start m v d (Some place) = HasInSlot start m v place.main d ⊎ HasInSlo
 
 -- at some moment between the submit of op i and its ack the last finished round had disk d in a slot that the write
 -- goes to
-pub record WasMeant (start : Start) (log : List Call) (front : List Entry) (i : ℕ) (target : Target) (d : ℕ) : Type 0 where
+pub record WasMeant (start : Start) (log : List Call) (front : List Entry) (i : ℕ) (target : Target)
+    (d : ℕ) : Type 0 where
   pub calls : ℕ
   pub early : List Entry
   pub late : List Entry
@@ -63,8 +64,8 @@ abbrev pub has_fault_by : ℕ → ℕ → List Entry → Bool
 has_fault_by d n journal = list_any (λ e. is_fault d e.event && nat_le e.stamp n) journal
 
 -- a failed call that isn't behind the journal's end: calls are numbered from 1
-abbrev pub IsTold : List Entry → ℕ → Call → Type 0
-IsTold journal before call =
+abbrev pub HasItsFault : List Entry → ℕ → Call → Type 0
+HasItsFault journal before call =
     call.went ≡ false → before + 1 < last_stamp journal → has_fault_by call.disk (before + 1) journal ≡ true
 
 -- THE END OF A RUN
@@ -72,26 +73,27 @@ IsTold journal before call =
 abbrev pub AllWent : List Call → Type 0
 AllWent log = AllByRecursion (λ call. call.went ≡ true) log
 
--- the last call is on disk d and failed, and each call before it went through
-pub record FailsLast (d : ℕ) (log : List Call) : Type 0 where
+-- the last call is on disk d and failed, each call before it went through, and nothing was entered behind it
+pub record FailsLast (d : ℕ) (log : List Call) (journal : List Entry) : Type 0 where
   pub before : List Call
   pub last : Call
   pub parts : log ≡ before ++ last ∷ []
   pub went : AllWent before
   pub on_disk : last.disk ≡ d
   pub fails : last.went ≡ false
+  pub behind : AllBelow (length before) journal
 
 -- A call that fails ends the run. Where no disk failed, each call of the run went through; where one did, the last call
--- is the one that failed on it.
-abbrev pub EndsAtFailure : List Call → (failed : Option ℕ) → Type 0
-EndsAtFailure log None = AllWent log
-EndsAtFailure log (Some d) = FailsLast d log
+-- is the one that failed on it, and the journal ends before it.
+abbrev pub EndsAtFailure : List Call → List Entry → (failed : Option ℕ) → Type 0
+EndsAtFailure log journal None = AllWent log
+EndsAtFailure log journal (Some d) = FailsLast d log journal
 
 -- WHAT A ROUND KEEPS
 
 -- what the last finished round's block (before the first, the newest at opening) says of a disk, the round's says too,
 -- unless the disk has a fault
-pub record Keeps (start : Start) (front : List Entry) (last m : Laid) : Type 0 where
+pub record KeepsMembers (start : Start) (front : List Entry) (last m : Laid) : Type 0 where
   pub expected : (serial : List ℕ) → start.words.expects last serial ≡ true
       → (start.words.expects m serial ≡ true) ⊎ (is_lost start.disks serial front ≡ true)
   pub in_sync : (v slot : ℕ) (before : SlotWords) → start.words.is_supported last v ≡ true
@@ -101,7 +103,8 @@ pub record Keeps (start : Start) (front : List Entry) (last m : Laid) : Type 0 w
 
 abbrev pub BeginKeeps : Start → List Call → List Entry → ℕ → Event → Type 0
 BeginKeeps start log front stamp (Begin g) =
-    (m last : Laid) → IsRound start log stamp g m → IsFinished start (take stamp log) front last → Keeps start front last m
+    (m last : Laid) → IsRound start log stamp g m → IsFinished start (take stamp log) front last
+    → KeepsMembers start front last m
 BeginKeeps start log front stamp _ = ⊤
 
 -- UNITS
@@ -147,6 +150,6 @@ BeginCounts start ops log front stamp _ = ⊤
 
 pub record FailureLaw (start : Start) (ops : List Op) (log : List Call) (journal : List Entry) : Type 0 where
   pub acks : AtEach (λ front e. AckOverFaults start ops (take e.stamp log) front e.event) journal
-  pub calls : EachCall (λ before call. IsTold journal before call) log
+  pub calls : EachCall (λ before call. HasItsFault journal before call) log
   pub keeps : AtEach (λ front e. BeginKeeps start log front e.stamp e.event) journal
   pub units : AtEach (λ front e. BeginCounts start ops log front e.stamp e.event) journal

@@ -19,6 +19,7 @@ pub mod AnswerLaw
 pub mod RowCalls
 pub mod Causes
 pub mod Rests
-pub mod Meaning
 pub mod Small
 pub mod SmallFailures
+pub mod RoundBlocks
+pub mod Room

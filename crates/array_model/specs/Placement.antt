@@ -1,8 +1,8 @@
 -- Where a volume's sectors lie on its members. Source: the layouts of the kernel's md.rst; RAID 1 is two copies, and
 -- a sector is the row of its number. The layouts of RAID 5 and RAID 10 are not placed yet.
 use Rattle.std.specs.Prelude.{ℕ, nat_lt, if◌then◌else◌, Option, Some, None}
-use Rattle.imsm_base.specs.declared.units.Level.{Level}
-use Rattle.imsm_base.specs.declared.units.Level.TheVariants.{One, Five, Ten}
+use Rattle.units.specs.declared.volume.Level.{Level}
+use Rattle.units.specs.declared.volume.Level.TheVariants.{One, Five, Ten}
 
 -- how a volume lies on its members, all in sectors: its size, its strip, the first of each member, and the rows
 pub record Shape : Type 0 where

@@ -1,5 +1,5 @@
 -- Rounds of metadata writes, which the journal begins and ends, and the members that work. Source: this project's own.
-use Rattle.std.specs.Prelude.{◌≡◌, ℕ, ◌==◌, Bool, true, false, List, [], ◌∷◌, drop, Option, Some, None, if◌then◌else◌, ⊤}
+use Rattle.std.specs.Prelude.{◌≡◌, ℕ, ◌==◌, Bool, true, false, List, [], ◌∷◌, ◌++◌, take, drop, Option, Some, None, if◌then◌else◌, ⊤}
 use Rattle.std.specs.Str.{bytes_eq}
 use Rattle.device_log.specs.Log.{Call}
 use Rattle.array_model.specs.declared.journal.Entry.{Entry}
@@ -7,7 +7,7 @@ use Rattle.array_model.specs.declared.journal.Event.{Event}
 use Rattle.array_model.specs.declared.journal.Event.TheVariants.{Begin, End, Fault}
 use Rattle.array_model.specs.Blocks.{Laid, is_container}
 use Rattle.array_model.specs.Start.{Start, Disks}
-use Rattle.array_model.specs.Events.{has, is_faulty}
+use Rattle.array_model.specs.Events.{AtEach, has, is_faulty}
 use Rattle.array_model.specs.Candidates.{In, writes, Durable, disk_after}
 
 -- the generation of the last round that ended
@@ -69,6 +69,16 @@ abbrev pub DurableOnWorking : Start → List Call → List Entry → (Laid → T
 DurableOnWorking start log journal P =
     (m : Laid) → IsFinished start log journal m → (d : ℕ) → IsWorking start journal m d
     → Durable P (disk_after start.words start.disks log d)
+
+-- where a round ends, its generation is durable on every working member
+abbrev pub EndedOver : Start → List Call → List Entry → Event → Type 0
+EndedOver start calls through (End g) = DurableOnWorking start calls through (λ m. start.words.generation m.anchor ≡ g)
+EndedOver start calls through _ = ⊤
+
+-- of each entry, with the calls made before it and the journal up to it
+abbrev pub EndsOnWorking : Start → List Call → List Entry → Type 0
+EndsOnWorking start log journal =
+    AtEach (λ front e. EndedOver start (take e.stamp log) (front ++ e ∷ []) e.event) journal
 
 -- a disk of this serial has a fault
 abbrev pub is_fault_of : Disks → List ℕ → Event → Bool

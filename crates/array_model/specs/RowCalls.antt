@@ -1,25 +1,26 @@
 -- The calls behind the answers of a run, and what each call of a run is made for. A write is done once its sector is
 -- written and synced on the disks of its place, and a value comes from a read of its row. No call is made that neither
 -- a round nor an operation under way asks for. Source: this project's own.
-use Rattle.std.specs.Prelude.{◌≡◌, ℕ, ◌+◌, ◌<◌, ◌≤◌, true, false, List, [], ◌∷◌, slice_get, Option, Some, None, ⊤, ◌⊎◌}
-use Rattle.imsm_base.specs.declared.units.Sector.{Sector}
-use Rattle.imsm_base.specs.declared.units.VolNo.{VolNo}
-use Rattle.imsm_base.specs.Whole.{anchor_place}
+use Rattle.std.specs.Prelude.{◌≡◌, ℕ, ◌+◌, ◌<◌, ◌≤◌, true, false, List, [], ◌∷◌, length, slice_get, Option, Some, None, ⊤, ◌⊎◌}
+use Rattle.units.specs.declared.disk.Sector.{Sector}
+use Rattle.units.specs.declared.volume.VolNo.{VolNo}
+use Rattle.units.specs.Places.{anchor_place}
 use Rattle.device_log.specs.Log.{Call, What, Read, Write, Sync}
 use Rattle.array_model.specs.declared.script.Op.{Op}
 use Rattle.array_model.specs.declared.script.OpKind.{OpKind}
 use Rattle.array_model.specs.declared.script.OpKind.TheVariants.{Write as OpWrite, Read as OpRead, Whole as OpWhole}
 use Rattle.array_model.specs.declared.journal.Entry.{Entry}
 use Rattle.array_model.specs.declared.journal.Event.{Event}
-use Rattle.array_model.specs.declared.journal.Event.TheVariants.{Begin, End, Ack}
+use Rattle.array_model.specs.declared.journal.Event.TheVariants.{Ack}
 use Rattle.array_model.specs.declared.journal.Answer.{Answer}
 use Rattle.array_model.specs.declared.journal.Answer.TheVariants.{Done, Value, Past, Failed, NoSpare}
 use Rattle.array_model.specs.Script.{Target, kind_at, write_at}
-use Rattle.array_model.specs.Events.{AtEach, has, is_submit, is_ack_of, is_faulty, up_to}
+use Rattle.array_model.specs.Events.{AtEach, has, is_submit, is_ack_of, is_faulty, is_live, up_to}
 use Rattle.array_model.specs.Moments.{EachCall}
 use Rattle.array_model.specs.Placement.{Place, place_of}
 use Rattle.array_model.specs.FailureLaw.{InPlace}
 use Rattle.array_model.specs.AnswerLaw.{submitted_from}
+use Rattle.array_model.specs.Causes.{GoesOn, course_of}
 use Rattle.array_model.specs.Start.{Start}
 
 -- ROWS
@@ -38,7 +39,14 @@ WentAt log k d what = slice_get log k ≡ Some (record { disk = d; what = what; 
 
 -- ANSWERS
 
--- between two stamps the sector was written at a place of disk d, and the disk was synced behind that
+-- a call leaves what stands at a place of its disk
+abbrev pub Spares : ℕ → What → Type 0
+Spares place (Read at) = ⊤
+Spares place (Write at sectors stored) = (place < at) ⊎ (at + length sectors ≤ place)
+Spares place Sync = ⊤
+
+-- between two stamps the sector was written at a place of disk d, the disk was synced behind that, and no call between
+-- that write and the later stamp, gone through or not, wrote the place again
 pub record IsWrittenOn (log : List Call) (since stamp d place : ℕ) (x : Sector) : Type 0 where
   pub write : ℕ
   pub sync : ℕ
@@ -47,6 +55,8 @@ pub record IsWrittenOn (log : List Call) (since stamp d place : ℕ) (x : Sector
   pub until : sync < stamp
   pub written : WentAt log write d (Write place (x ∷ []) 1)
   pub synced : WentAt log sync d Sync
+  pub stays : (k : ℕ) (call : Call) → write < k → k < stamp → slice_get log k ≡ Some call → call.disk ≡ d
+      → Spares place call.what
 
 -- a write was done: so it went on some disk of its place, and on each that has no fault. Both slots of a place have the
 -- sector itself: Placement has places of copies alone.
@@ -95,44 +105,33 @@ AnswersFromRows start ops log journal = AtEach (λ front e. AckFrom start ops lo
 
 -- CAUSES
 
--- the generation of the round that is open: the last entry that begins or ends a round begins it
-abbrev pub open_at : Option ℕ → Event → Option ℕ
-open_at found (Begin g) = Some g
-open_at found (End g) = None
-open_at found _ = found
-
-abbrev pub open_from : Option ℕ → List Entry → Option ℕ
-open_from found [] = found
-open_from found (e ∷ es) = open_from (open_at found e.event) es
-
-abbrev pub open_round : List Entry → Option ℕ
-open_round journal = open_from None journal
-
--- a round is open, and the newest block at opening expects disk d
+-- a round goes on, and the newest block at opening expects disk d
 pub record IsInRound (start : Start) (front : List Entry) (d : ℕ) : Type 0 where
   pub generation : ℕ
-  pub is_open : open_round front ≡ Some generation
+  pub goes_on : course_of front ≡ GoesOn generation
   pub target : start.words.expects start.newest (start.disks.serial d) ≡ true
 
--- the round's anchor
+-- the round's anchor, of a block of one sector
 pub record IsAnchor (start : Start) (front : List Entry) (d place : ℕ) (sectors : List Sector) : Type 0 where
   pub round : IsInRound start front d
   pub anchor : Sector
   pub at_anchor : place ≡ anchor_place (start.disks.sectors d)
   pub brings : sectors ≡ anchor ∷ []
   pub of_round : start.words.generation anchor ≡ round.generation
+  pub alone : start.words.extra anchor ≡ 0
 
 -- an operation was submitted and isn't answered
 pub record IsUnderWay (front : List Entry) (i : ℕ) : Type 0 where
   pub asked : has (is_submit i) front ≡ true
   pub unanswered : has (is_ack_of i) front ≡ false
 
--- a write under way, whose row lies at this place of disk d
+-- a write under way on an active volume, whose row lies at this place of disk d
 pub record IsWriting (start : Start) (ops : List Op) (front : List Entry) (d place : ℕ) : Type 0 where
   pub op : ℕ
   pub under_way : IsUnderWay front op
   pub target : Target
   pub asks : write_at ops op ≡ Some target
+  pub live : is_live target.volume front ≡ true
   pub row : IsRowOn start target.volume target.sector d place
 
 -- its sector

@@ -2,9 +2,9 @@
 -- project's own.
 use Rattle.std.specs.Prelude.{ℕ, zero, suc, ◌==◌, ◌&&◌, ◌||◌, not, Bool, true, false, List, [], ◌∷◌, ◌++◌, length, take, slice_index, slice_set, Some, None, if◌then◌else◌}
 use Rattle.std.specs.Str.{bytes_eq}
-use Rattle.imsm_base.specs.declared.units.Sector.{Sector}
-use Rattle.imsm_base.specs.declared.units.VolNo.{VolNo}
-use Rattle.imsm_base.specs.declared.units.Level.TheVariants.{One}
+use Rattle.units.specs.declared.disk.Sector.{Sector}
+use Rattle.units.specs.declared.volume.VolNo.{VolNo}
+use Rattle.units.specs.declared.volume.Level.TheVariants.{One}
 use Rattle.device_log.specs.Log.{Call, Read, Write, Sync}
 use Rattle.array_model.specs.declared.script.Op.{Op}
 use Rattle.array_model.specs.declared.script.OpKind.TheVariants.{Write as OpWrite, Read as OpRead}
@@ -90,6 +90,10 @@ small_start = record {
   unsure = λ v s. false;
 }
 
+-- the edit of a round: another generation, and dirty or not
+abbrev pub small_renew : Laid → ℕ → Bool → Laid
+small_renew m g y = record { anchor = block g (if y then 1 else 0) (bytes_at 2 m); extended = [] }
+
 -- THE WORKED REPLAY: one write and one read
 
 abbrev pub the_volume : VolNo
@@ -100,7 +104,8 @@ the_value = 0x1122334455667788
 
 abbrev pub write_and_read : List Op
 write_and_read =
-    record { client = 0; kind = OpWrite the_volume 5 the_value } ∷ record { client = 0; kind = OpRead the_volume 5 } ∷ []
+    record { client = 0; kind = OpWrite the_volume 5 the_value }
+    ∷ record { client = 0; kind = OpRead the_volume 5 } ∷ []
 
 abbrev pub the_script : Asked
 the_script = record { ops = write_and_read; asks = [] }
@@ -129,7 +134,8 @@ abbrev pub worked_journal : List Entry
 worked_journal =
     at 0 (Begin 2) ∷ at 4 (End 2) ∷ at 4 (Ready the_volume) ∷ at 4 (Submit 0) ∷ at 4 (Pending the_volume)
     ∷ at 4 (Begin 3) ∷ at 8 (End 3) ∷ at 8 (Active the_volume) ∷ at 12 (Ack 0 Done)
-    ∷ at 12 (Submit 1) ∷ at 13 (Ack 1 (Value (sector_of the_value))) ∷ at 13 (Idle the_volume) ∷ at 13 (Clean the_volume)
+    ∷ at 12 (Submit 1) ∷ at 13 (Ack 1 (Value (sector_of the_value))) ∷ at 13 (Idle the_volume)
+    ∷ at 13 (Clean the_volume)
     ∷ at 13 (Begin 4) ∷ at 17 (End 4) ∷ []
 
 -- `active` stands after the first member's sync
@@ -137,7 +143,8 @@ abbrev pub early_journal : List Entry
 early_journal =
     at 0 (Begin 2) ∷ at 4 (End 2) ∷ at 4 (Ready the_volume) ∷ at 4 (Submit 0) ∷ at 4 (Pending the_volume)
     ∷ at 4 (Begin 3) ∷ at 6 (Active the_volume) ∷ at 8 (End 3) ∷ at 12 (Ack 0 Done)
-    ∷ at 12 (Submit 1) ∷ at 13 (Ack 1 (Value (sector_of the_value))) ∷ at 13 (Idle the_volume) ∷ at 13 (Clean the_volume)
+    ∷ at 12 (Submit 1) ∷ at 13 (Ack 1 (Value (sector_of the_value))) ∷ at 13 (Idle the_volume)
+    ∷ at 13 (Clean the_volume)
     ∷ at 13 (Begin 4) ∷ at 17 (End 4) ∷ []
 
 -- the read is answered with what stood there at opening
@@ -200,6 +207,32 @@ unread_log = slice_set worked_log 12 (syncs 0)
 abbrev pub scribbled_log : List Call
 scribbled_log = worked_log ++ puts 0 5 zeros ∷ []
 
+-- the row is written while its volume is write-pending
+abbrev pub pending_log : List Call
+pending_log = take 4 worked_log ++ puts 0 5 (sector_of the_value) ∷ []
+
+abbrev pub pending_journal : List Entry
+pending_journal = take 5 worked_journal
+
+-- ROUNDS
+
+-- the first round's block isn't written to the second member
+abbrev pub unspread_log : List Call
+unspread_log = slice_set worked_log 2 (syncs 0)
+
+-- the first round's last sync fails
+abbrev pub unsettled_log : List Call
+unsettled_log = slice_set worked_log 3 (fails (syncs 1))
+
+-- the last round breaks off, and its blocks differ
+abbrev pub twins_log : List Call
+twins_log = slice_set worked_log 15 (puts 1 4094 (block 4 1 0))
+
+abbrev pub twins_journal : List Entry
+twins_journal = take 14 worked_journal
+
+-- REST
+
 -- the volume is made clean, and no round has recorded it
 abbrev pub unrecorded_journal : List Entry
 unrecorded_journal = take 13 worked_journal
@@ -209,6 +242,10 @@ unrecorded_journal = take 13 worked_journal
 -- the first round has another generation than the next one
 abbrev pub skipping_journal : List Entry
 skipping_journal = at 0 (Begin 99) ∷ at 4 (End 99) ∷ []
+
+-- a round begins that nothing makes due
+abbrev pub needless_journal : List Entry
+needless_journal = at 0 (Begin 2) ∷ at 4 (End 2) ∷ at 4 (Ready the_volume) ∷ at 4 (Begin 3) ∷ []
 
 -- a disk has a fault, where no run outlives one
 abbrev pub faulty_journal : List Entry

@@ -1,9 +1,9 @@
 -- More small traces: a failed disk, a pass, spares, a parity volume, and blocks of two sectors. Source: this project's
 -- own.
 use Rattle.std.specs.Prelude.{ℕ, zero, suc, ◌==◌, if◌then◌else◌, not, true, List, [], ◌∷◌, ◌++◌, length, slice_index, Option, Some, None}
-use Rattle.imsm_base.specs.declared.units.Sector.{Sector}
-use Rattle.imsm_base.specs.declared.units.DiskNo.{DiskNo}
-use Rattle.imsm_base.specs.declared.units.Level.TheVariants.{One, Five}
+use Rattle.units.specs.declared.disk.Sector.{Sector}
+use Rattle.units.specs.declared.disk.DiskNo.{DiskNo}
+use Rattle.units.specs.declared.volume.Level.TheVariants.{One, Five}
 use Rattle.device_log.specs.Log.{Call}
 use Rattle.array_model.specs.declared.script.OpKind.TheVariants.{Whole}
 use Rattle.array_model.specs.declared.journal.Entry.{Entry}

@@ -1,6 +1,6 @@
 -- What a run starts from: the disks as they were opened, and what the opening said. Source: this project's own.
 use Rattle.std.specs.Prelude.{ℕ, Bool, List, [], length, slice_index, slice_index_or, Option}
-use Rattle.imsm_base.specs.declared.units.Sector.{Sector}
+use Rattle.units.specs.declared.disk.Sector.{Sector}
 use Rattle.array_model.specs.Blocks.{Words, Laid}
 
 -- the disks of a bank, by number: serials, sizes in sectors, and the sectors that stood there at opening

@@ -3,10 +3,10 @@ ghost use Rattle.std.specs.Prelude.{◌≡◌, ◌<◌, [], ◌∷◌, ◌++◌,
 ghost use Rattle.std.specs.List.{AllByRecursion};
 ghost use Rattle.array_model.specs.Fits.{FitsEntry};
 
-use imsm_base::{DiskNo, Sector, VolNo};
 use std::alloc::Global;
 use std::marker::Model;
 use thiserror::Error;
+use units::{DiskNo, Sector, VolNo};
 
 /// How an operation was answered.
 #[derive(Clone, Copy, Debug, PartialEq, Eq)]

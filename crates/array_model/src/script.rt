@@ -1,9 +1,9 @@
 //! What a run is asked to do: operations of clients, asks of the manager, and turns.
 ghost use Rattle.std.specs.Prelude.{◌≡◌, [], ◌∷◌, ◌++◌, OnOk, OnErr};
 
-use imsm_base::{DiskNo, VolNo};
 use std::alloc::{AllocError, Global};
 use std::marker::Model;
+use units::{DiskNo, VolNo};
 
 /// What a client asks for. A write names the volume, the sector and eight bytes as one number, the first byte the
 /// highest; the sector written is these bytes 64 times over. A read names the volume and the sector. `Whole` waits

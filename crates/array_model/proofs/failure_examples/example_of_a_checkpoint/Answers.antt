@@ -3,7 +3,7 @@ use Rattle.std.proofs.lemmas.Bool.Decides.{nat_tests}
 use Rattle.array_model.specs.declared.journal.Entry.{Entry}
 use Rattle.array_model.specs.Blocks.{Laid}
 use Rattle.array_model.specs.Rounds.{IsRound}
-use Rattle.array_model.specs.FailureLaw.{Keeps, ReadsRow}
+use Rattle.array_model.specs.FailureLaw.{KeepsMembers, ReadsRow}
 use Rattle.array_model.specs.Small.{small_disks, small_expects, small_slot, bytes_at, gets}
 use Rattle.array_model.specs.SmallFailures.{passing_words, passing_from, passing_log, with_fourth}
 use Rattle.array_model.proofs.Written.{written_passes}
@@ -14,7 +14,7 @@ round_passes : (P : Laid → Bool) (m : Laid) → P (record { anchor = with_four
 round_passes P m passes round =
     written_passes passing_words small_disks (λ s. refl) P round.disk (drop 1 (passing_log 8)) m (rw passes refl) round.written
 
-keeps_passing : (front : List Entry) (last m : Laid) → IsRound (passing_from (Some 0)) (passing_log 8) 1 2 m → Keeps (passing_from (Some 0)) front last m
+keeps_passing : (front : List Entry) (last m : Laid) → IsRound (passing_from (Some 0)) (passing_log 8) 1 2 m → KeepsMembers (passing_from (Some 0)) front last m
 keeps_passing front last m round =
     let kept = keeps_small front last m (inl (round_passes (λ m. small_expects m (65 ∷ [])) m refl round)) (inl (round_passes (λ m. small_expects m (66 ∷ [])) m refl round)) in
     record { expected = kept.expected; in_sync = kept.in_sync }

@@ -1,13 +1,13 @@
 use Rattle.std.proofs.Common.{◌≡◌, true, false, take, refl, subst, sym, None, Some}
 use Rattle.array_model.specs.declared.journal.Answer.TheVariants.{Done}
 use Rattle.array_model.specs.Blocks.{Laid}
-use Rattle.array_model.specs.AnswerLaw.{IsWhole}
+use Rattle.array_model.specs.AnswerLaw.{IsVolumeWhole}
 use Rattle.array_model.specs.Small.{small_start}
 use Rattle.array_model.specs.SmallFailures.{degraded_start, passing_from, answered}
 use Rattle.array_model.proofs.SmallVolumes.{in_order}
 use Rattle.array_model.proofs.failure_examples.example_of_whole.Goals as goal
 
-is_whole : IsWhole small_start (take 1 (answered Done)) small_start.newest 0
+is_whole : IsVolumeWhole small_start (take 1 (answered Done)) small_start.newest 0
 is_whole = record { slots = ((refl, refl), ((refl, refl), tt)); idle = refl }
 
 pub returns-clause-meets : goal.returns-clause-meets
@@ -15,7 +15,7 @@ returns-clause-meets c = record {
   order = in_order Done;
   values = (tt, (tt, tt));
   reads = tt;
-  whole = (tt, ((λ m finished. subst (λ (m : Laid). IsWhole small_start (take 1 (answered Done)) m 0) (sym finished) is_whole), tt));
+  whole = (tt, ((λ m finished. subst (λ (m : Laid). IsVolumeWhole small_start (take 1 (answered Done)) m 0) (sym finished) is_whole), tt));
 }
 
 pub returns-clause-degraded : goal.returns-clause-degraded
