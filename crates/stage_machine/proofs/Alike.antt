@@ -1,6 +1,6 @@
 -- Two settings in which every turn is the same, and that hold the same when a run begins, have the same honest runs.
 use Rattle.std.proofs.Common.{◌≡◌, ℕ, List, Option, Some, None, ap, sym, subst, ◌∙◌}
-use Rattle.imsm_base.specs.declared.units.Sector.{Sector}
+use Rattle.units.specs.declared.disk.Sector.{Sector}
 use Rattle.device_log.specs.Log.{Call}
 use Rattle.device_log.specs.Cells.{Cell, resting, cell_after}
 use Rattle.stage_machine.specs.Setting.{Setting}

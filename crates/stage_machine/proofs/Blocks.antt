@@ -1,10 +1,11 @@
 -- What a call does to the metadata of one disk, where each block has one sector.
-use Rattle.std.proofs.Common.{◌≡◌, ℕ, ◌+◌, ◌-◌, ◌≤◌, ◌==◌, ◌||◌, Bool, true, false, nat_lt, nat_le, List, [], ◌∷◌, ◌++◌, refl, ap, sym, ◌∙◌, subst, arith, inl, inr, Some}
+use Rattle.std.proofs.Common.{◌≡◌, ℕ, ◌+◌, ◌-◌, ◌≤◌, ◌==◌, Bool, true, false, nat_lt, nat_le, List, [], ◌∷◌, ◌++◌, refl, ap, sym, ◌∙◌, subst, arith, inl, inr, Some}
 use Rattle.std.specs.Str.{bytes_eq}
 use Rattle.std.proofs.lemmas.Bool.Decides.{nat_tests}
-use Rattle.imsm_base.specs.declared.units.Sector.{Sector}
-use Rattle.imsm_base.specs.declared.bounds.TheConstants.{METADATA_SECTORS}
-use Rattle.imsm_base.specs.Whole.{anchor_place}
+use Rattle.std.proofs.lemmas.Bool.{or_right}
+use Rattle.units.specs.declared.disk.Sector.{Sector}
+use Rattle.units.specs.declared.bounds.TheConstants.{METADATA_SECTORS}
+use Rattle.units.specs.Places.{anchor_place}
 use Rattle.device_log.specs.Log.{Call, Write}
 use Rattle.device_log.specs.Cells.{Cell, brought, cell_at}
 use Rattle.array_model.specs.Blocks.{Laid, Words, sectors_eq, laid_eq, block_of}
@@ -34,11 +35,7 @@ laid_self m = rw (bytes_self m.anchor.0, sectors_self m.extended) refl
 pub in_among : (m : Laid) (ms : List Laid) → In m ms → is_among m ms ≡ true
 in_among m [] i = absurd i
 in_among m (x ∷ xs) (inl same) = subst (λ y. is_among m (y ∷ xs) ≡ true) same (rw (laid_self m) refl)
-in_among m (x ∷ xs) (inr i) = right (laid_eq m x) (is_among m xs) (in_among m xs i)
-  where
-    right : (a b : Bool) → b ≡ true → (a || b) ≡ true
-    right true b e = refl
-    right false b e = e
+in_among m (x ∷ xs) (inr i) = or_right (laid_eq m x) (is_among m xs) (in_among m xs i)
 
 -- ONE SECTOR
 

@@ -1,5 +1,5 @@
 -- What stands at a place of a disk, after a log.
-use Rattle.std.proofs.Common.{◌≡◌, ℕ, ◌==◌, if◌then◌else◌, Bool, true, false, List, [], ◌∷◌, ◌++◌, refl, ap, ◌∙◌}
+use Rattle.std.proofs.Common.{◌≡◌, ℕ, ◌==◌, if◌then◌else◌, Bool, true, false, List, [], ◌∷◌, refl, ap, ◌∙◌}
 use Rattle.device_log.specs.Log.{Call}
 use Rattle.device_log.specs.Cells.{Cell, resting, cell_at, cell_called, cell_after}
 use Rattle.array_model.specs.Blocks.{Words}
@@ -18,7 +18,7 @@ from_cells W disks d p k [] = refl
 from_cells W disks d p k (call ∷ log) =
     from_cells W disks d p (disk_called W disks d k call) log ∙ ap (λ (c : Cell). cell_after d p c log) (called_cells W disks d p k call)
 
-opened_cells : (W : Words) (disks : Disks) (d p : ℕ) → (opened W disks d).cells p ≡ resting (disks.opening d p)
+pub opened_cells : (W : Words) (disks : Disks) (d p : ℕ) → (opened W disks d).cells p ≡ resting (disks.opening d p)
 opened_cells W disks d p = at (W.is_whole (disks.serial d) (disks.sectors d) (standing W (disks.sectors d) (λ q. resting (disks.opening d q))))
   where
     at : (b : Bool) → (opened_with W (λ q. resting (disks.opening d q)) (standing W (disks.sectors d) (λ q. resting (disks.opening d q))) b).cells p ≡ resting (disks.opening d p)
@@ -29,7 +29,3 @@ opened_cells W disks d p = at (W.is_whole (disks.serial d) (disks.sectors d) (st
 pub cells_after : (W : Words) (disks : Disks) (log : List Call) (d p : ℕ) → (disk_after W disks log d).cells p ≡ cell_after d p (resting (disks.opening d p)) log
 cells_after W disks log d p =
     from_cells W disks d p (opened W disks d) log ∙ ap (λ (c : Cell). cell_after d p c log) (opened_cells W disks d p)
-
-pub cell_append : (d p : ℕ) (c : Cell) (log more : List Call) → cell_after d p c (log ++ more) ≡ cell_after d p (cell_after d p c log) more
-cell_append d p c [] more = refl
-cell_append d p c (call ∷ log) more = cell_append d p (cell_called d p c call) log more

@@ -4,19 +4,24 @@ use Rattle.std.specs.Prelude.{⊤, filter}
 use Rattle.std.specs.List.{AllByRecursion, range_with_len}
 use Rattle.std.proofs.lemmas.Bool.Decides.{nat_tests}
 use Rattle.std.proofs.lemmas.List.{get_or-set_other, get_or-set_same}
-use Rattle.imsm_base.specs.declared.units.Sector.{Sector}
+use Rattle.std.proofs.lemmas.Bool.{cases_lt}
+use Rattle.units.specs.declared.disk.Sector.{Sector}
 use Rattle.device_log.specs.Log.{Call}
 use Rattle.array_model.specs.declared.script.Op.{Op}
 use Rattle.array_model.specs.declared.journal.Event.{Event}
 use Rattle.array_model.specs.Script.{is_of_client, kind_at}
 use Rattle.array_model.specs.Placement.{Place, place_by}
-use Rattle.imsm_base.specs.declared.units.Level.TheVariants.{One}
+use Rattle.units.specs.declared.volume.Level.TheVariants.{One}
 use Rattle.array_model.specs.declared.script.OpKind.{OpKind}
 use Rattle.array_model.specs.declared.script.OpKind.TheVariants.{Write as OpWrite, Read as OpRead, Whole as OpWhole}
 use Rattle.stage_machine.specs.Setting.{Setting, has}
 use Rattle.stage_machine.specs.Jobs.{JobStep, Waiting, Writing, Syncing, Written, Got, Job, NoJob, Busy, Client, no_client, client_at, ops_of, place_at, row_at, row_in, sector_in, the_shape, Need, NoNeed, Reads, Writes, Syncs, Answers, need_of, first_need, read_need, write_need, sync_need, after_write, after_sync}
-use Rattle.stage_machine.specs.Machine.{Control, need_now, need_unless, is_held, World, Reached, opens, goes, clients_of, got_of}
+use Rattle.stage_machine.specs.Machine.{Control, need_now, need_unless, is_held, World, Reached, opens, goes, clients_of, got_of, stamped}
 use Rattle.stage_machine.proofs.Turns.{Turns, Has, turns_of, nothing, fails, anchors, settles, ends, begins, readies, actives, cleans, rests, pasts, asks_read, asks_write, puts, syncs, gets, acks}
+use Rattle.stage_machine.specs.Opens.{IsInFirst}
+use Rattle.stage_machine.specs.States.{State, IsReadonly, IsReadAuto, IsClean, IsPending, IsActive, IsIdle, asked_events}
+use Rattle.array_model.specs.Events.{has as has_event, is_submit}
+use Rattle.array_model.specs.declared.journal.Event.TheVariants.{Submit}
 
 -- A LIST OF CLIENTS, ONE OF THEM CHANGED
 
@@ -84,11 +89,8 @@ start_past f a (suc n) (suc k) le = start_past f (a + 1) n k (omega arith)
 abbrev pub first_client : Setting → ℕ → Client
 first_client S k = record { left = ops_of S.asked.ops k; job = NoJob }
 
-below_or : (k n : ℕ) → (k < n) ⊎ (n ≤ k)
-below_or k n = grind arith
-
 pub at_start : (S : Setting) (k : ℕ) → ((k < 16) × (client_at (clients_of S) k ≡ first_client S k)) ⊎ ((16 ≤ k) × (client_at (clients_of S) k ≡ no_client))
-at_start S k = elim (below_or k 16) [
+at_start S k = elim (cases_lt k 16) [
   | inl lt ↦ let zero_plus : 0 + k ≡ k = omega arith in inl (lt, start_at (first_client S) 0 16 k lt ∙ ap (first_client S) zero_plus)
   | inr le ↦ inr (le, start_past (first_client S) 0 16 k le)
 ]
@@ -260,3 +262,18 @@ pub op_below : (ops : List Op) (k i : ℕ) → is_of_client ops k i ≡ true →
 op_below [] k i h = absurd cc
 op_below (op ∷ ops) k zero h = omega arith
 op_below (op ∷ ops) k (suc i) h = let more : i < length ops = op_below ops k i h in omega arith
+
+-- what a script asks for reads or writes volume 0
+pub kind_first : (ops : List Op) (i : ℕ) (kind : OpKind) → AllByRecursion (λ op. IsInFirst op.kind) ops → kind_at ops i ≡ Some kind → IsInFirst kind
+kind_first [] i kind all is = absurd cc
+kind_first (op ∷ ops) zero kind all is = let same : op.kind ≡ kind = cc is in subst IsInFirst same all.0
+kind_first (op ∷ ops) (suc i) kind all is = kind_first ops i kind all.1 is
+
+-- a submit, with what it enters beside, submits one operation
+pub one_submit : (n i : ℕ) (state : State) (m : ℕ) → (i == m) ≡ false → has_event (is_submit m) (record { stamp = n; event = Submit i } ∷ stamped n (asked_events state)) ≡ false
+one_submit n i IsReadonly m apart = rw apart refl
+one_submit n i IsReadAuto m apart = rw apart refl
+one_submit n i IsClean m apart = rw apart refl
+one_submit n i IsPending m apart = rw apart refl
+one_submit n i IsActive m apart = rw apart refl
+one_submit n i IsIdle m apart = rw apart refl

@@ -1,28 +1,28 @@
 -- Which calls a run makes, and what the blocks have in common that it writes.
-use Rattle.std.proofs.Common.{◌≡◌, ℕ, zero, suc, ◌+◌, ◌<◌, ◌==◌, ◌&&◌, Bool, true, false, if◌then◌else◌, List, [], ◌∷◌, take, drop, refl, ap, sym, ◌∙◌, subst, arith, inl, inr, Option, Some, None}
+use Rattle.std.proofs.Common.{◌≡◌, ℕ, zero, suc, ◌+◌, ◌<◌, true, List, [], ◌∷◌, take, refl, sym, ◌∙◌, subst, Option, Some, None}
 use Rattle.std.specs.Prelude.{⊤}
 use Rattle.std.specs.List.{AllByRecursion}
-use Rattle.std.proofs.lemmas.Bool.Decides.{nat_tests}
-use Rattle.imsm_base.specs.declared.units.Sector.{Sector}
-use Rattle.imsm_base.specs.Whole.{anchor_place}
+use Rattle.units.specs.declared.disk.Sector.{Sector}
+use Rattle.units.specs.Places.{anchor_place}
 use Rattle.device_log.specs.Log.{Call, What, Read, Write, Sync}
 use Rattle.array_model.specs.declared.journal.Entry.{Entry}
 use Rattle.array_model.specs.declared.journal.Event.{Event}
 use Rattle.array_model.specs.Blocks.{Laid}
-use Rattle.array_model.specs.Candidates.{Disk, In, is_among, standing, counted, disk_at, disk_called, disk_from, writes}
+use Rattle.array_model.specs.Candidates.{writes}
 use Rattle.array_model.specs.Rounds.{IsFinished, IsFinishedBy, IsRound, ended}
-use Rattle.array_model.proofs.Journals.{all-append}
+use Rattle.array_model.proofs.Journals.{all-append, all_map}
 use Rattle.array_model.specs.Renewal.{FitsGeneration, SaysSame}
 use Rattle.stage_machine.specs.Setting.{Setting, Renews, has}
 use Rattle.stage_machine.specs.Opens.{StandsOnAll, IsFirstVolume}
 use Rattle.stage_machine.specs.Rounds.{AtAnchor, Phase, Rest, Going}
 use Rattle.stage_machine.specs.Jobs.{JobStep, Busy, Reads, Writes, the_shape, row_at, value_at}
 use Rattle.stage_machine.specs.Machine.{Control, need_now, World, Reached, opens, goes, got_of, log_after}
-use Rattle.stage_machine.proofs.Turns.{Turns, turns_of, Has, Asked, anchor, settle, put, sync, get, nothing, fails, anchors, settles, ends, begins, readies, actives, cleans, rests, pasts, asks_read, asks_write, puts, syncs, gets, acks}
+use Rattle.stage_machine.proofs.Turns.{Turns, turns_of, Has, AsksFor, anchor, settle, put, sync, get, nothing, fails, anchors, settles, ends, begins, readies, actives, cleans, rests, pasts, asks_read, asks_write, puts, syncs, gets, acks}
 use Rattle.stage_machine.proofs.Clients.{Mine, mine_reached, of_job, NeedIn, need_in, row_below, AllIn, all_in_self}
-use Rattle.stage_machine.proofs.Blocks.{IsRow, noted_row, noted_anchor}
-use Rattle.stage_machine.proofs.Stands.{Good, GoodRound, going_good, good_reached, fitted}
+use Rattle.stage_machine.proofs.Blocks.{IsRow}
+use Rattle.stage_machine.proofs.Stands.{Good, GoodRound, going_good, good_reached, fitted, row_write, row_read, row_sync}
 use Rattle.stage_machine.proofs.Targets.{row_inside}
+use Rattle.stage_machine.proofs.Marks.{AllMarks, Marks, marks_row, marks_anchor, written_marks}
 
 -- CALLS
 
@@ -73,7 +73,7 @@ module _ (S : Setting) (volume : IsFirstVolume S) (c : Control) (mine : Mine S c
       let job = of_job S c k i more step mine has in
       fine_read (row_at S i) (row_below S volume.level i job.place job.placed) (subst (NeedIn S.members) need (need_in S c k i step job.inside))
 
-  fine_asked : (d : ℕ) (what : What) → Asked S c d what → Fine S d what
+  fine_asked : (d : ℕ) (what : What) → AsksFor S c d what → Fine S d what
   fine_asked _ _ (anchor m d ds stored is) = fine_anchor m stored (subst (LeftIn S) is left).0 (going_good S c.round m AtAnchor (d ∷ ds) good is)
   fine_asked _ _ (settle m d ds is) = fine_sync
   fine_asked _ _ (put k i more step d ds stored has need) = fine_put k i more step d ds stored has need
@@ -113,54 +113,25 @@ fine_reached S renews on volume w fits (goes {w = v} r a) =
 
 -- BLOCKS
 
-all_drop : (S : Setting) (n : ℕ) (log : List Call) → AllByRecursion (IsFine S) log → AllByRecursion (IsFine S) (drop n log)
-all_drop S zero log h = h
-all_drop S (suc n) [] h = tt
-all_drop S (suc n) (x ∷ log) h = all_drop S n log h.1
-
 pub all_take : (S : Setting) (n : ℕ) (log : List Call) → AllByRecursion (IsFine S) log → AllByRecursion (IsFine S) (take n log)
 all_take S zero log h = tt
 all_take S (suc n) [] h = tt
 all_take S (suc n) (x ∷ log) h = (h.0, all_take S n log h.1)
 
-in_all : (P : Laid → Type 0) (m : Laid) (ms : List Laid) → In m ms → AllByRecursion P ms → P m
-in_all P m [] i h = absurd i
-in_all P m (x ∷ xs) (inl same) h = subst P (sym same) h.0
-in_all P m (x ∷ xs) (inr i) h = in_all P m xs i h.1
+fine_marks : (S : Setting) (d : ℕ) (what : What) → Fine S d what → Marks S (Good S) d what
+fine_marks S d _ (fine_anchor m stored target good) = marks_anchor m stored target good good
+fine_marks S d _ (fine_write place stored s row) = marks_row _ (row_write place stored s row)
+fine_marks S d _ (fine_read row below member) = marks_row _ (row_read _)
+fine_marks S d _ fine_sync = marks_row _ row_sync
 
-counted_known : (S : Setting) (k : Disk) (m : Laid) (b : Bool) → (counted S.start.words k m b).known ≡ k.known
-counted_known S k m true = refl
-counted_known S k m false = refl
+all_fine_marks : (S : Setting) (log : List Call) → AllByRecursion (IsFine S) log → AllMarks S (Good S) log
+all_fine_marks S log fine = all_map (IsFine S) (λ call. Marks S (Good S) call.disk call.what) (λ call h. fine_marks S call.disk call.what h) log fine
 
 module _ (S : Setting) (volume : IsFirstVolume S) where
-  -- the blocks known of a disk, after a fine call on it
-  known_at : (d : ℕ) (k : Disk) (what : What) (went : Bool) → Fine S d what → AllByRecursion (Good S) k.known
-      → AllByRecursion (Good S) (disk_at S.start.words (S.start.disks.serial d) (S.start.disks.sectors d) k what went).known
-  known_at d k _ went (fine_anchor m stored target good) h =
-      let room = volume.room d target in
-      let is = noted_anchor S.start.words (S.start.disks.serial d) (S.start.disks.sectors d) k m stored went (omega (arith, room)) good.alone in
-      subst (AllByRecursion (Good S)) (sym (ap (λ (x : Disk). x.known) is)) (good, h)
-  known_at d k _ went (fine_write place stored s row) h =
-      subst (AllByRecursion (Good S)) (sym (ap (λ (x : Disk). x.known) (noted_row S.start.words (S.start.disks.serial d) (S.start.disks.sectors d) k place stored s went row))) h
-  known_at d k _ went (fine_read row below member) h = h
-  known_at d k _ true fine_sync h =
-      let m = standing S.start.words (S.start.disks.sectors d) k.cells in
-      subst (AllByRecursion (Good S)) (sym (counted_known S k m (S.start.words.is_whole (S.start.disks.serial d) (S.start.disks.sectors d) m && is_among m k.known))) h
-  known_at d k _ false fine_sync h = h
-
-  known_from : (d : ℕ) (k : Disk) (log : List Call) → AllByRecursion (IsFine S) log → AllByRecursion (Good S) k.known → AllByRecursion (Good S) (disk_from S.start.words S.start.disks d k log).known
-  known_from d k [] fine h = h
-  known_from d k (x ∷ log) fine h = known_from d (disk_called S.start.words S.start.disks d k x) log fine.1 (at (x.disk == d) refl)
-    where
-      at : (b : Bool) → (x.disk == d) ≡ b → AllByRecursion (Good S) (if b then disk_at S.start.words (S.start.disks.serial d) (S.start.disks.sectors d) k x.what x.went else k).known
-      at true is = let here : x.disk ≡ d = grind (arith, nat_tests, is) in known_at d k x.what x.went (subst (λ z. Fine S z x.what) here fine.0) h
-      at false is = h
-
   -- a block that the log writes for a round is a good one
   pub round_good : (log : List Call) (stamp g : ℕ) (m : Laid) → AllByRecursion (IsFine S) log → IsRound S.start log stamp g m → SaysSame S.start.words m S.start.newest
   round_good log stamp g m fine round =
-      (in_all (Good S) m (writes S.start.words S.start.disks round.disk (drop stamp log)) round.written
-      (known_from round.disk _ (drop stamp log) (all_drop S stamp log fine) tt)).same
+      (written_marks S volume (Good S) log stamp round.disk m (all_fine_marks S log fine) round.written).same
 
   -- so is the block of the last finished round
   pub finished_good : StandsOnAll S → (log : List Call) (journal : List Entry) (m : Laid) → AllByRecursion (IsFine S) log → IsFinished S.start log journal m → SaysSame S.start.words m S.start.newest

@@ -3,9 +3,11 @@ pub mod Moments
 pub mod Clients
 pub mod Blocks
 pub mod Stands
+pub mod Marks
 pub mod Targets
 pub mod Ours
 pub mod Finished
 pub mod Failed
 pub mod Cells
 pub mod Alike
+pub mod Durable

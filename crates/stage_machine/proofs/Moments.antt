@@ -6,9 +6,10 @@ use Rattle.array_model.specs.declared.journal.Entry.{Entry}
 use Rattle.array_model.specs.declared.journal.Event.{Event}
 use Rattle.array_model.specs.Moments.{AllBelow, NoneBelow, Always}
 use Rattle.array_model.specs.Form.{RisesFrom}
-use Rattle.array_model.proofs.Journals.{all-append, all_first, below_later}
+use Rattle.array_model.proofs.Journals.{all-append, all_first, below_later, at_each_log}
 use Rattle.stage_machine.specs.Setting.{Setting}
-use Rattle.stage_machine.specs.Machine.{World, Action, Reached, opens, goes, happens, turned, call_of, stamped, calls_after, log_after}
+use Rattle.stage_machine.specs.Machine.{World, Action, Reached, opens, goes, happens, turned, call_of, stamped, calls_after, log_after, run}
+use Rattle.array_model.specs.Events.{AtEach}
 
 -- of two cuts of one list, one is further
 cuts : (xs ys front rest : List Entry) → xs ++ ys ≡ front ++ rest
@@ -142,3 +143,14 @@ counted_after S w a k =
 pub counted_reached : (S : Setting) (w : World) → Reached S w → Counted w
 counted_reached S w opens = record { calls = refl; below = tt; rises = tt }
 counted_reached S w (goes {w = v} r a) = counted_after S v a (counted_reached S v r)
+
+-- what is said of the calls before an entry goes on to hold of the entries before a turn, in the log after it
+pub at_each_before : (Q : List Call → List Entry → Entry → Type 0) (log : List Call) (call : Option Call) (journal : List Entry) → AllBelow (length log) journal
+    → AtEach (λ front e. Q (take e.stamp log) front e) journal → AtEach (λ front e. Q (take e.stamp (log_after log call)) front e) journal
+at_each_before Q log None journal below h = h
+at_each_before Q log (Some x) journal below h = at_each_log Q log x [] journal below h
+
+-- a run of turns leads to a world that is reached
+pub reached_by : (S : Setting) (w : World) → Reached S w → (turns : List Action) → Reached S (run S w turns)
+reached_by S w r [] = r
+reached_by S w r (a ∷ more) = reached_by S (happens S w a) (goes r a) more

@@ -6,7 +6,7 @@ use Rattle.array_model.specs.declared.journal.Entry.{Entry}
 use Rattle.array_model.specs.declared.journal.Event.{Event}
 use Rattle.array_model.specs.declared.journal.Event.TheVariants.{Begin, End, Spare, Ready, Pass, PassEnd, Active, Clean, Unblock, Posted, Applied, Declined, Submit, Pending, Ack, Idle, Fault, Takeover}
 use Rattle.array_model.specs.Events.{count, is_spare, is_ready, is_pass, is_pass_end, is_active, is_clean, is_unblock, is_posted, is_settled, is_pending, is_idle, is_fault, is_takeover}
-use Rattle.imsm_base.specs.declared.units.Sector.{Sector}
+use Rattle.units.specs.declared.disk.Sector.{Sector}
 use Rattle.device_log.specs.Log.{Call}
 use Rattle.array_model.specs.Events.{has, is_faulty, up_to}
 use Rattle.array_model.specs.Rounds.{is_fault_of, is_lost}

@@ -3,11 +3,11 @@ use Rattle.std.proofs.Common.{◌≡◌, ℕ, ◌+◌, ◌≤◌, ◌==◌, ◌&
 use Rattle.std.specs.Prelude.{⊤}
 use Rattle.std.specs.List.{AllByRecursion}
 use Rattle.std.proofs.lemmas.Bool.Decides.{nat_tests}
-use Rattle.imsm_base.specs.declared.units.Sector.{Sector}
-use Rattle.imsm_base.specs.declared.bounds.TheConstants.{METADATA_SECTORS}
-use Rattle.imsm_base.specs.Whole.{anchor_place}
+use Rattle.units.specs.declared.disk.Sector.{Sector}
+use Rattle.units.specs.declared.bounds.TheConstants.{METADATA_SECTORS}
+use Rattle.units.specs.Places.{anchor_place}
 use Rattle.device_log.specs.Log.{Call, What, Read, Write, Sync}
-use Rattle.device_log.specs.Cells.{Cell, brought, cell_synced}
+use Rattle.device_log.specs.Cells.{Cell, brought}
 use Rattle.array_model.specs.Blocks.{Laid, Words}
 use Rattle.array_model.specs.Candidates.{Disk, In, is_among, standing, counted, disk_at}
 use Rattle.array_model.specs.Renewal.{FitsGeneration, SaysSame, IsRenewable, IsRenewed}
@@ -18,6 +18,8 @@ use Rattle.stage_machine.specs.Rounds.{Step, AtAnchor, AtSync, Phase, Rest, Goin
 use Rattle.stage_machine.specs.Machine.{Control, World, Action, Reached, opens, goes, happens, got_of}
 use Rattle.stage_machine.proofs.Turns.{Turns, turns_of, nothing, fails, anchors, settles, ends, begins, readies, actives, cleans, rests, pasts, asks_read, asks_write, puts, syncs, gets, acks}
 use Rattle.stage_machine.proofs.Blocks.{in_among, IsAlone, standing_is, IsRow, noted_row, noted_anchor, cell_row, cell_anchor}
+use Rattle.device_log.proofs.Cells.{synced_stood}
+use Rattle.array_model.proofs.Written.{counted_known}
 
 has_first : (d : ℕ) (ds : List ℕ) → has d (d ∷ ds) ≡ true
 has_first d ds = let here : (d == d) ≡ true = grind (arith, nat_tests) in rw here refl
@@ -185,16 +187,8 @@ module _ (S : Setting) (d : ℕ) where
 
   -- A SYNC
 
-  synced_cell : (c : Cell) (went : Bool) → (cell_synced c went).stood ≡ c.stood
-  synced_cell c true = refl
-  synced_cell c false = refl
-
-  counted_known : (k : Disk) (m : Laid) (b : Bool) → (counted W k m b).known ≡ k.known
-  counted_known k m true = refl
-  counted_known k m false = refl
-
   sync_known : (k : Disk) (went : Bool) → (after k Sync went).known ≡ k.known
-  sync_known k true = let m = standing W n k.cells in counted_known k m (W.is_whole (S.start.disks.serial d) n m && is_among m k.known)
+  sync_known k true = let m = standing W n k.cells in counted_known W k m (W.is_whole (S.start.disks.serial d) n m && is_among m k.known)
   sync_known k false = refl
 
   -- the candidates after a sync: what stands there, or those before
@@ -208,7 +202,7 @@ module _ (S : Setting) (d : ℕ) where
 
   pub sync_stands : (m : Laid) (k : Disk) (went : Bool) → StandsAs S d m k → StandsAs S d m (after k Sync went)
   sync_stands m k went h = record {
-    stands = synced_cell (k.cells (anchor_place n)) went ∙ h.stands;
+    stands = synced_stood (k.cells (anchor_place n)) went ∙ h.stands;
     known = subst (In m) (sym (sync_known k went)) h.known;
   }
 

@@ -1,10 +1,9 @@
 -- What all targets hold, from turn to turn.
-use Rattle.std.proofs.Common.{◌≡◌, ℕ, ◌+◌, ◌-◌, ◌≤◌, ◌==◌, Bool, true, false, List, [], ◌∷◌, ◌++◌, refl, ap, sym, ◌∙◌, subst, arith, inl, Option}
+use Rattle.std.proofs.Common.{◌≡◌, ℕ, ◌+◌, ◌-◌, ◌==◌, Bool, true, false, List, [], ◌∷◌, ◌++◌, refl, ap, sym, ◌∙◌, subst, arith, inl, Option}
 use Rattle.std.specs.Prelude.{⊤}
 use Rattle.std.proofs.lemmas.Bool.Decides.{nat_tests}
-use Rattle.imsm_base.specs.declared.units.Sector.{Sector}
-use Rattle.imsm_base.specs.declared.bounds.TheConstants.{METADATA_SECTORS}
-use Rattle.imsm_base.specs.Whole.{anchor_place}
+use Rattle.units.specs.declared.disk.Sector.{Sector}
+use Rattle.units.specs.Places.{anchor_place}
 use Rattle.device_log.specs.Log.{Call, What, Write, Sync}
 use Rattle.device_log.specs.Cells.{resting}
 use Rattle.array_model.specs.declared.journal.Event.{Event}
@@ -16,10 +15,11 @@ use Rattle.stage_machine.specs.Opens.{SaysAll, StandsOnAll, IsFirstVolume}
 use Rattle.stage_machine.specs.Rounds.{Step, AtAnchor, AtSync, Phase, Rest, Going, Round}
 use Rattle.stage_machine.specs.Jobs.{JobStep, Busy, Writes, the_shape, row_at, value_at}
 use Rattle.stage_machine.specs.Machine.{Control, need_now, World, Reached, opens, goes, got_of, log_after}
-use Rattle.stage_machine.proofs.Turns.{Turns, turns_of, Has, Asked, anchor, settle, put, sync, get, nothing, fails, anchors, settles, ends, begins, readies, actives, cleans, rests, pasts, asks_read, asks_write, puts, syncs, gets, acks}
+use Rattle.stage_machine.proofs.Turns.{Turns, turns_of, Has, AsksFor, anchor, settle, put, sync, get, nothing, fails, anchors, settles, ends, begins, readies, actives, cleans, rests, pasts, asks_read, asks_write, puts, syncs, gets, acks}
 use Rattle.stage_machine.proofs.Clients.{Mine, mine_reached, of_job, NeedIn, need_in, row_below}
 use Rattle.stage_machine.proofs.Blocks.{disk-snoc, IsAlone, IsRow}
 use Rattle.stage_machine.proofs.Stands.{GoodRound, going_good, good_reached, fitted, Settled, StandsAs, Mixed, RowCall, row_write, row_read, row_sync, after, mixed_of, mixed_last, synced_settled, settled_row, mixed_row, row_stands, mixed_anchor, anchored}
+use Rattle.stage_machine.proofs.Marks.{metadata_fits}
 
 abbrev pub IsFirst : ℕ → List ℕ → Type 0
 IsFirst d [] = ⊥
@@ -103,21 +103,6 @@ row_inside S volume c k i left step d mine has member =
     let room = volume.room d (volume.members d member).target in
     omega (arith, below, room, volume.rows)
 
--- what is asked while no round is going on is of a row
-pub asked_row : (S : Setting) → IsFirstVolume S → (c : Control) (e : ℕ) (what : What) → Mine S c → c.round.phase ≡ Rest → Asked S c e what → RowCall S e what
-asked_row S volume c _ _ mine rest (anchor m d ds stored is) = absurd (no_round c.round.phase rest is)
-  where
-    no_round : (p : Phase) → p ≡ Rest → p ≡ Going m AtAnchor (d ∷ ds) → ⊥
-    no_round Rest a b = absurd cc
-    no_round (Going m step left) a b = absurd cc
-asked_row S volume c _ _ mine rest (settle m d ds is) = row_sync
-asked_row S volume c _ _ mine rest (put k i left step d ds stored has need) =
-    let job = of_job S c k i left step mine has in
-    let member = (subst (NeedIn S.members) need (need_in S c k i step job.inside)).0 in
-    row_write _ stored _ (row_inside S volume c k i left step d mine has member)
-asked_row S volume c _ _ mine rest (sync k i left step d ds has need) = row_sync
-asked_row S volume c _ _ mine rest (get k i left step d has need) = row_read _
-
 -- a call at a row leaves what stands by any place of the round
 row_stays : (S : Setting) (last : Laid) (d : ℕ) (k : Disk) (phase : Phase) (what : What) (went : Bool) → IsAlone S.start.words last → ((m : Laid) (step : Step) (left : List ℕ) → phase ≡ Going m step left → IsAlone S.start.words m)
     → RowCall S d what → StandsIn S last d k phase → StandsIn S last d (after S d k what went) phase
@@ -134,9 +119,6 @@ row_stays S last d k (Going m AtSync left) what went lone alone row h =
 module _ (S : Setting) (volume : IsFirstVolume S) (log : List Call) (c : Control) (mine : Mine S c) (good : GoodRound S c.round) (stand : Stand S log c.round) where
   alone_of : (m : Laid) (step : Step) (left : List ℕ) → c.round.phase ≡ Going m step left → IsAlone S.start.words m
   alone_of m step left is = (going_good S c.round m step left good is).alone
-
-  enough : (d : ℕ) → has d S.targets ≡ true → METADATA_SECTORS ≤ S.start.disks.sectors d
-  enough d target = let room = volume.room d target in omega (arith, room)
 
   -- a call at a row of disk e
   stand_row : (e : ℕ) (what : What) (went : Bool) → RowCall S e what → Stand S (log ++ call e what went ∷ []) c.round
@@ -163,7 +145,7 @@ module _ (S : Setting) (volume : IsFirstVolume S) (log : List Call) (c : Control
   stand_anchor m e ds stored went is d target = held_by S c.round.last d (disk S log d) _ (Going m AtAnchor (e ∷ ds)) (Going m AtAnchor (e ∷ ds)) held (
       lift S (λ k. Under S held.block m d k (e ∷ ds)) (λ k. Under S held.block m d k (e ∷ ds)) log e d _ went held.stands
       (λ here k h. subst (λ z. Under S held.block m d (after S d k (Write (anchor_place (S.start.disks.sectors z)) (m.anchor ∷ []) stored) went) (e ∷ ds)) (sym here) (record {
-        mixed = mixed_anchor S d held.block m k stored went (enough d target) (alone_of m AtAnchor (e ∷ ds) is) h.mixed;
+        mixed = mixed_anchor S d held.block m k stored went (metadata_fits S volume d target) (alone_of m AtAnchor (e ∷ ds) is) h.mixed;
         done = λ out. absurd (first_in e d ds here out);
       }))
       (λ other k h. h))
@@ -179,7 +161,7 @@ module _ (S : Setting) (volume : IsFirstVolume S) (log : List Call) (c : Control
       → StandsAs S d m (disk S (log ++ call e (Write (anchor_place (S.start.disks.sectors e)) (m.anchor ∷ []) 1) true ∷ []) d)
   stand_anchored m e ds is d target first =
       lift S (λ k. ⊤) (λ k. StandsAs S d m k) log e d _ true tt
-      (λ here k h. subst (λ z. StandsAs S d m (after S d k (Write (anchor_place (S.start.disks.sectors z)) (m.anchor ∷ []) 1) true)) (sym here) (anchored S d m k (enough d target) (alone_of m AtAnchor (e ∷ ds) is)))
+      (λ here k h. subst (λ z. StandsAs S d m (after S d k (Write (anchor_place (S.start.disks.sectors z)) (m.anchor ∷ []) 1) true)) (sym here) (anchored S d m k (metadata_fits S volume d target) (alone_of m AtAnchor (e ∷ ds) is)))
       (λ other k h. absurd (let is_here : (e == d) ≡ true = grind (arith, nat_tests, first) in cc (is_here, other)))
 
   -- the sync of the first target that is left
@@ -193,10 +175,7 @@ module _ (S : Setting) (volume : IsFirstVolume S) (log : List Call) (c : Control
       (λ here k h. let settled = synced_settled S d m k it.alone (it.whole d target) (h.1 here) in record { mixed = mixed_of S d held.block m (after S d k Sync true) settled; done = λ out. settled })
       (λ other k h. record { mixed = h.0.mixed; done = λ out. h.0.done (rw other out) }))
 
-  stand_settle : (m : Laid) (e : ℕ) (ds : List ℕ) → c.round.phase ≡ Going m AtSync (e ∷ ds) → Stand S (log ++ call e Sync false ∷ []) c.round
-  stand_settle m e ds is = stand_row e Sync false row_sync
-
-  stand_fails : (e : ℕ) (what : What) → Asked S c e what → Stand S (log ++ call e what false ∷ []) c.round
+  stand_fails : (e : ℕ) (what : What) → AsksFor S c e what → Stand S (log ++ call e what false ∷ []) c.round
   stand_fails _ _ (anchor m d ds stored is) = λ x target. subst (Held S c.round.last x _) (sym is) (stand_anchor m d ds stored false is x target)
   stand_fails _ _ (settle m d ds is) = stand_row d Sync false row_sync
   stand_fails _ _ (put k i left step d ds stored has need) = stand_put k i left step d ds stored false has need

@@ -1,7 +1,7 @@
 -- What a turn may call, enter and leave: one relation, which all laws go through.
 use Rattle.std.proofs.Common.{◌≡◌, ℕ, ◌+◌, not, Bool, true, false, List, [], ◌∷◌, refl, ap, Option, Some, None, ◌⊎◌, inl, inr}
-use Rattle.imsm_base.specs.declared.units.Sector.{Sector}
-use Rattle.imsm_base.specs.Whole.{anchor_place}
+use Rattle.units.specs.declared.disk.Sector.{Sector}
+use Rattle.units.specs.Places.{anchor_place}
 use Rattle.device_log.specs.Log.{Call, What, Read, Write, Sync}
 use Rattle.array_model.specs.declared.script.OpKind.{OpKind}
 use Rattle.array_model.specs.declared.script.OpKind.TheVariants.{Write as OpWrite, Read as OpRead, Whole as OpWhole}
@@ -23,15 +23,15 @@ abbrev pub Has : Control → ℕ → List ℕ → Job → Type 0
 Has c k left job = client_at c.clients k ≡ record { left = left; job = job }
 
 -- what a control state may ask of a disk
-pub data Asked (S : Setting) (c : Control) : ℕ → What → Type 0 where
+pub data AsksFor (S : Setting) (c : Control) : ℕ → What → Type 0 where
   anchor : (m : Laid) (d : ℕ) (ds : List ℕ) (stored : ℕ) → c.round.phase ≡ Going m AtAnchor (d ∷ ds)
-      → Asked S c d (Write (anchor_place (S.start.disks.sectors d)) (m.anchor ∷ []) stored)
-  settle : (m : Laid) (d : ℕ) (ds : List ℕ) → c.round.phase ≡ Going m AtSync (d ∷ ds) → Asked S c d Sync
+      → AsksFor S c d (Write (anchor_place (S.start.disks.sectors d)) (m.anchor ∷ []) stored)
+  settle : (m : Laid) (d : ℕ) (ds : List ℕ) → c.round.phase ≡ Going m AtSync (d ∷ ds) → AsksFor S c d Sync
   put : (k i : ℕ) (left : List ℕ) (step : JobStep) (d : ℕ) (ds : List ℕ) (stored : ℕ) → Has c k left (Busy i step) → need_now S c k i step ≡ Writes d ds
-      → Asked S c d (Write ((the_shape S).pba + row_at S i) (value_at S i ∷ []) stored)
-  sync : (k i : ℕ) (left : List ℕ) (step : JobStep) (d : ℕ) (ds : List ℕ) → Has c k left (Busy i step) → need_now S c k i step ≡ Syncs d ds → Asked S c d Sync
+      → AsksFor S c d (Write ((the_shape S).pba + row_at S i) (value_at S i ∷ []) stored)
+  sync : (k i : ℕ) (left : List ℕ) (step : JobStep) (d : ℕ) (ds : List ℕ) → Has c k left (Busy i step) → need_now S c k i step ≡ Syncs d ds → AsksFor S c d Sync
   get : (k i : ℕ) (left : List ℕ) (step : JobStep) (d : ℕ) → Has c k left (Busy i step) → need_now S c k i step ≡ Reads d
-      → Asked S c d (Read ((the_shape S).pba + row_at S i))
+      → AsksFor S c d (Read ((the_shape S).pba + row_at S i))
 
 abbrev pub went : ℕ → What → Option Call
 went d what = Some (record { disk = d; what = what; went = true })
@@ -55,7 +55,7 @@ pub record IsPast (S : Setting) (c : Control) (i : ℕ) : Type 0 where
 -- a turn: its call, its entries, and the control state that it leaves
 pub data Turns (S : Setting) (c : Control) (got : Sector) : Option Call → List Event → Control → Type 0 where
   nothing : Turns S c got None [] c
-  fails : (d : ℕ) (what : What) → Asked S c d what → Turns S c got (Some (record { disk = d; what = what; went = false })) [] (record c { failed = Some d })
+  fails : (d : ℕ) (what : What) → AsksFor S c d what → Turns S c got (Some (record { disk = d; what = what; went = false })) [] (record c { failed = Some d })
   anchors : (m : Laid) (d : ℕ) (ds : List ℕ) → c.round.phase ≡ Going m AtAnchor (d ∷ ds)
       → Turns S c got (went d (Write (anchor_place (S.start.disks.sectors d)) (m.anchor ∷ []) 1)) [] (record c { round = record c.round { phase = Going m AtSync (d ∷ ds) } })
   settles : (m : Laid) (d e : ℕ) (ds : List ℕ) → c.round.phase ≡ Going m AtSync (d ∷ e ∷ ds)

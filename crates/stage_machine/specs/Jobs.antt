@@ -2,7 +2,7 @@
 -- Source: this project's own.
 use Rattle.std.specs.Prelude.{ℕ, ◌+◌, ◌==◌, ◌||◌, ◌&&◌, not, Bool, true, false, List, [], ◌∷◌, slice_index_or, filter, length, Option, Some, None}
 use Rattle.std.specs.List.{range_with_len}
-use Rattle.imsm_base.specs.declared.units.Sector.{Sector}
+use Rattle.units.specs.declared.disk.Sector.{Sector}
 use Rattle.device_log.specs.Log.{Call, Read, Write, Sync}
 use Rattle.array_model.specs.declared.script.Op.{Op}
 use Rattle.array_model.specs.declared.script.OpKind.{OpKind}
@@ -160,6 +160,10 @@ abbrev pub need_call : Setting → Ended → ℕ → Need → Option Call
 need_call S x i NoNeed = None
 need_call S x i (Reads d) = Some (record { disk = d; what = Read ((the_shape S).pba + row_at S i); went = x.went })
 need_call S x i (Writes d ds) =
-    Some (record { disk = d; what = Write ((the_shape S).pba + row_at S i) (value_at S i ∷ []) (stored_of x 1); went = x.went })
+    Some (record {
+      disk = d;
+      what = Write ((the_shape S).pba + row_at S i) (value_at S i ∷ []) (stored_of x 1);
+      went = x.went;
+    })
 need_call S x i (Syncs d ds) = Some (record { disk = d; what = Sync; went = x.went })
 need_call S x i (Answers answer) = None

@@ -5,3 +5,4 @@ pub mod Jobs
 pub mod Machine
 pub mod Worked
 pub mod Opens
+pub mod EachRun

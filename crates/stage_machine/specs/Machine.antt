@@ -2,7 +2,7 @@
 -- with the action. A failed call ends the run. Source: this project's own.
 use Rattle.std.specs.Prelude.{◌≡◌, ℕ, ◌+◌, ◌||◌, ◌&&◌, not, Bool, true, false, List, [], ◌∷◌, ◌++◌, slice_set, map, Option, Some, None, ⊤}
 use Rattle.std.specs.List.{range_with_len}
-use Rattle.imsm_base.specs.declared.units.Sector.{Sector}
+use Rattle.units.specs.declared.disk.Sector.{Sector}
 use Rattle.device_log.specs.Log.{Call, Read}
 use Rattle.array_model.specs.declared.script.OpKind.{OpKind}
 use Rattle.array_model.specs.declared.script.OpKind.TheVariants.{Write as OpWrite, Read as OpRead, Whole as OpWhole}
@@ -53,7 +53,8 @@ moved S c (Makes to event) = record { next = record c { state = to }; events = e
 
 abbrev pub monitor_at : Setting → Control → Ended → Phase → Out
 monitor_at S c x Rest =
-    moved S c (decide c.round.started c.state (S.start.words.is_dirty c.round.last 0) (S.start.words.is_dirty c.round.book 0))
+    moved S c (decide c.round.started c.state
+    (S.start.words.is_dirty c.round.last 0) (S.start.words.is_dirty c.round.book 0))
 monitor_at S c x (Going m step []) = idle c
 monitor_at S c x (Going m step (d ∷ ds)) = called x.went d (put_round c (step_on S c.round m step d ds)) c
 

@@ -2,8 +2,8 @@
 -- project's own.
 use Rattle.std.specs.Prelude.{◌≡◌, ℕ, ◌+◌, ◌<◌, ◌≤◌, true, false, List, [], length, Some, ⊤}
 use Rattle.std.specs.List.{AllByRecursion}
-use Rattle.imsm_base.specs.declared.bounds.TheConstants.{METADATA_SECTORS}
-use Rattle.imsm_base.specs.declared.units.Level.TheVariants.{One}
+use Rattle.units.specs.declared.bounds.TheConstants.{METADATA_SECTORS}
+use Rattle.units.specs.declared.volume.Level.TheVariants.{One}
 use Rattle.device_log.specs.Cells.{resting}
 use Rattle.array_model.specs.declared.script.OpKind.{OpKind}
 use Rattle.array_model.specs.declared.script.OpKind.TheVariants.{Write as OpWrite, Read as OpRead, Whole as OpWhole}
@@ -42,7 +42,8 @@ pub record StandsOnAll (S : Setting) : Type 0 where
   pub short : S.start.newest.extended ≡ []
   pub expected : (d : ℕ) → S.start.words.expects S.start.newest (S.start.disks.serial d) ≡ has d S.targets
   pub stands : (d : ℕ) → has d S.targets ≡ true
-      → SaysAll S.start.words (standing S.start.words (S.start.disks.sectors d) (λ p. resting (S.start.disks.opening d p))) S.start.newest
+      → SaysAll S.start.words (standing S.start.words (S.start.disks.sectors d)
+      (λ p. resting (S.start.disks.opening d p))) S.start.newest
   pub whole : (d : ℕ) → has d S.targets ≡ true
       → S.start.words.is_whole (S.start.disks.serial d) (S.start.disks.sectors d) S.start.newest ≡ true
 
@@ -53,8 +54,8 @@ pub record IsMember (S : Setting) (d : ℕ) : Type 0 where
   pub member : HasInSlot S.start S.start.newest 0 slot d
   pub in_sync : member.words.is_in_sync ≡ true
 
--- the volume is of two copies, started and clean, its members are the disks of its two slots, and its rows end before the
--- sectors that are kept for metadata
+-- the volume is of two copies, started and clean, its members are the disks of its two slots, and its rows end before
+-- the sectors that are kept for metadata
 pub record IsFirstVolume (S : Setting) : Type 0 where
   pub level : (the_shape S).level ≡ Some One
   pub two : length (S.start.words.slots S.start.newest 0) ≡ 2
@@ -62,7 +63,8 @@ pub record IsFirstVolume (S : Setting) : Type 0 where
   pub started : S.start.is_started 0 ≡ true
   pub members : (d : ℕ) → has d S.members ≡ true → IsMember S d
   pub each_slot : (slot d : ℕ) → HasInSlot S.start S.start.newest 0 slot d → has d S.members ≡ true
-  pub room : (d : ℕ) → has d S.targets ≡ true → (the_shape S).pba + (the_shape S).rows + METADATA_SECTORS ≤ S.start.disks.sectors d
+  pub room : (d : ℕ) → has d S.targets ≡ true
+      → (the_shape S).pba + (the_shape S).rows + METADATA_SECTORS ≤ S.start.disks.sectors d
 
 -- no other volume is started
 abbrev pub StartsFirstAlone : Setting → Type 0

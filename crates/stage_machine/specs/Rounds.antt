@@ -1,7 +1,7 @@
 -- The machine's rounds: new metadata goes to each target, anchor and sync, one call a turn. Source: super-intel.c
 -- (write_super_imsm) for what is written; one call a turn is this project's own.
 use Rattle.std.specs.Prelude.{ℕ, ◌+◌, Bool, true, List, [], ◌∷◌, Option, Some, None, if◌then◌else◌}
-use Rattle.imsm_base.specs.Whole.{anchor_place}
+use Rattle.units.specs.Places.{anchor_place}
 use Rattle.device_log.specs.Log.{Call, What, Write, Sync}
 use Rattle.array_model.specs.declared.journal.Event.{Event}
 use Rattle.array_model.specs.declared.journal.Event.TheVariants.{Begin, End}

@@ -21,4 +21,5 @@ has d (e ∷ es) = (e == d) || has d es
 -- on each block that a round may be edited from, and each generation that fits, the edit is that of a round
 abbrev pub Renews : Setting → Type 0
 Renews S =
-    (m : Laid) (g : ℕ) (y : Bool) → IsRenewable S.start.words m → FitsGeneration g → IsRenewed S.start.words m g y (S.renew m g y)
+    (m : Laid) (g : ℕ) (y : Bool) → IsRenewable S.start.words m → FitsGeneration g
+    → IsRenewed S.start.words m g y (S.renew m g y)

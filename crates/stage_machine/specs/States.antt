@@ -1,7 +1,7 @@
 -- The machine's array states and what the monitor does where no round is going on. Source: the array states of the
 -- kernel's md.rst, and mdmon-design.txt; the order of the monitor's rules is this project's own.
 use Rattle.std.specs.Prelude.{Bool, true, false, not, List, [], ◌∷◌}
-use Rattle.imsm_base.specs.declared.units.VolNo.{VolNo}
+use Rattle.units.specs.declared.volume.VolNo.{VolNo}
 use Rattle.array_model.specs.declared.journal.Event.{Event}
 use Rattle.array_model.specs.declared.journal.Event.TheVariants.{Ready, Active, Clean, Pending}
 

@@ -1,7 +1,7 @@
 -- The turns of the worked run: a drain of one client that writes and reads. Source: this project's own.
-use Rattle.std.specs.Prelude.{true, List, [], ◌∷◌, ◌++◌, if◌then◌else◌}
+use Rattle.std.specs.Prelude.{true, List, [], ◌∷◌, ◌++◌}
 use Rattle.std.specs.List.{repeat}
-use Rattle.array_model.specs.Small.{small_start, the_script, block, bytes_at, the_value}
+use Rattle.array_model.specs.Small.{small_start, small_renew, the_script, the_value}
 use Rattle.array_model.specs.Script.{sector_of}
 use Rattle.stage_machine.specs.Setting.{Setting}
 use Rattle.stage_machine.specs.Machine.{Action, Monitors, Asks, Quiets}
@@ -12,7 +12,7 @@ small_setting = record {
   asked = the_script;
   targets = 0 ∷ 1 ∷ [];
   members = 0 ∷ 1 ∷ [];
-  renew = λ m g y. record { anchor = block g (if y then 1 else 0) (bytes_at 2 m); extended = [] };
+  renew = small_renew;
 }
 
 abbrev pub monitor : Action

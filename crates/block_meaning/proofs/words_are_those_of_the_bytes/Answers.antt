@@ -1,10 +1,10 @@
 use Rattle.std.proofs.Common.{refl, subst}
 use Rattle.imsm_base.proofs.Joined.{block_in-spelled}
 use Rattle.array_model.specs.Blocks.{Laid}
-use Rattle.array_model.specs.Meaning.{bytes_of_laid, SaysBlock}
-use Rattle.block_words.specs.Reading.{parts_of, block_words}
-use Rattle.block_words.proofs.Decided.{disk-decided, disk-apart}
-use Rattle.block_words.proofs.words_are_those_of_the_bytes.Goals as goal
+use Rattle.block_meaning.specs.Meaning.{bytes_of_laid, SaysBlock}
+use Rattle.block_meaning.specs.Reading.{parts_of, block_words}
+use Rattle.block_meaning.proofs.Decided.{disk-decided, disk-apart}
+use Rattle.block_meaning.proofs.words_are_those_of_the_bytes.Goals as goal
 
 says-parts : (m : Laid) → SaysBlock block_words m (parts_of m)
 says-parts m = record {

@@ -4,7 +4,7 @@ use Rattle.std.specs.Prelude.{ℕ, ◌%◌, ◌==◌, ◌&&◌, ◌||◌, nat_le
 use Rattle.std.specs.List.{list_any}
 use Rattle.std.specs.Option.{option_map_or}
 use Rattle.std.specs.Str.{bytes_eq}
-use Rattle.imsm_base.specs.declared.bounds.TheConstants.{HEADER_BYTES, MAX_BLOCK_BYTES, MAX_DISKS, MAX_VOLUMES, METADATA_SECTORS}
+use Rattle.units.specs.declared.bounds.TheConstants.{HEADER_BYTES, MAX_BLOCK_BYTES, MAX_DISKS, MAX_VOLUMES, METADATA_SECTORS}
 use Rattle.imsm_base.specs.Fields.{number_at}
 use Rattle.imsm_base.specs.Layout.{Block, signature_of, checksum_of, size_of, disk_count_of, volume_count_of, total_blocks_of}
 use Rattle.imsm_base.specs.Parts.{room_of}
@@ -37,4 +37,5 @@ is_whole_block bytes b =
 
 abbrev pub is_whole_disk : List ℕ → ℕ → List ℕ → Block → Bool
 is_whole_disk own n bytes b =
-    nat_le METADATA_SECTORS n && is_whole_block bytes b && option_map_or (λ d. nat_le (total_blocks_of d) n) (own_record own b) false
+    nat_le METADATA_SECTORS n && is_whole_block bytes b
+    && option_map_or (λ d. nat_le (total_blocks_of d) n) (own_record own b) false

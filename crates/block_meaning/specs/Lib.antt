@@ -1,3 +1,4 @@
+pub mod Meaning
 pub mod Whole
 pub mod Reading
 pub mod Renewed

@@ -4,11 +4,12 @@ use Rattle.std.specs.Prelude.{is_none, flat_map}
 use Rattle.std.proofs.lemmas.Bool.{false≢true}
 use Rattle.std.proofs.lemmas.List.{append-nil, take-take, take_at, length-take, get_or-set_same}
 use Rattle.byteorder.specs.Endian.{little_bytes}
-use Rattle.imsm_base.specs.declared.units.Sector.{Sector}
+use Rattle.units.specs.declared.disk.Sector.{Sector}
 use Rattle.imsm_base.specs.Fields.{number, number_at}
 use Rattle.imsm_base.specs.Layout.{Block, Volume, header_lengths, size_of, generation_of, disk_count_of}
 use Rattle.imsm_base.specs.Parts.{block_in}
-use Rattle.imsm_base.specs.Whole.{IsWholeBlock, IsWholeDisk, block_sum, extended_count, expected_serials}
+use Rattle.imsm_base.specs.Whole.{IsWholeBlock, IsWholeDisk, block_sum, expected_serials}
+use Rattle.units.specs.Places.{extended_count}
 use Rattle.imsm_base.specs.Volumes.{members, is_dirty, volume_fault}
 use Rattle.imsm_base.specs.Edits.{with_generation, with_dirty, sized, first_sector, block_with_generation, block_with_dirty, block_with_size, block_sealed}
 use Rattle.imsm_base.specs.FirstForm.{IsFirstForm}
@@ -17,12 +18,12 @@ use Rattle.imsm_base.proofs.Spliced.{number_at-take, number_at-front}
 use Rattle.imsm_base.proofs.Edited.{fields_of, other_field, length-volumes_with_dirty, length-with_generation, generation-spells, dirty-length}
 use Rattle.imsm_base.proofs.Sealed.{IsUnsealed, unsealed_whole, generation-unsealed, dirty-unsealed, sealed-whole, length-sealed, number-four}
 use Rattle.array_model.specs.Blocks.{Laid}
-use Rattle.array_model.specs.Meaning.{bytes_of_laid, has_serial, of_volume, slot_words, pass_of}
+use Rattle.block_meaning.specs.Meaning.{bytes_of_laid, has_serial, of_volume, slot_words, pass_of}
 use Rattle.array_model.specs.Renewal.{FitsGeneration, SaysSame, IsRenewable, IsRenewed}
-use Rattle.block_words.specs.Reading.{parts_of, block_words}
-use Rattle.block_words.specs.Renewed.{renewed_bytes, renewed}
-use Rattle.block_words.proofs.Decided.{disk-decided, disk-apart}
-use Rattle.block_words.proofs.Same.{get-dirty, pass-dirty, fault-dirty, fault-other, first-dirty}
+use Rattle.block_meaning.specs.Reading.{parts_of, block_words}
+use Rattle.block_meaning.specs.Renewed.{renewed_bytes, renewed}
+use Rattle.block_meaning.proofs.Decided.{disk-decided, disk-apart}
+use Rattle.block_meaning.proofs.Same.{get-dirty, pass-dirty, fault-dirty, fault-other, first-dirty}
 
 -- the parts of the block that is edited
 abbrev edited : Block → ℕ → Bool → List ℕ → Block
@@ -74,11 +75,11 @@ sector-number k at bytes inside short =
     number_at-take k at 512 (bytes ++ replicate 512 0) (omega arith) ∙ number_at-front k at bytes (replicate 512 0) inside
 
 -- the numbers of a header, by its parts
-size-at : (bytes : List ℕ) → number_at 4 36 bytes ≡ size_of (block_in bytes)
+pub size-at : (bytes : List ℕ) → number_at 4 36 bytes ≡ size_of (block_in bytes)
 unfolding block_in
 size-at bytes = refl
 
-generation-at : (bytes : List ℕ) → number_at 4 44 bytes ≡ generation_of (block_in bytes)
+pub generation-at : (bytes : List ℕ) → number_at 4 44 bytes ≡ generation_of (block_in bytes)
 unfolding block_in
 generation-at bytes = refl
 

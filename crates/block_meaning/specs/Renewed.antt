@@ -4,7 +4,7 @@
 use Rattle.std.specs.Prelude.{ℕ, Bool, List, []}
 use Rattle.imsm_base.specs.Edits.{with_generation, with_dirty, sealed, first_sector}
 use Rattle.array_model.specs.Blocks.{Laid}
-use Rattle.array_model.specs.Meaning.{bytes_of_laid}
+use Rattle.block_meaning.specs.Meaning.{bytes_of_laid}
 
 abbrev pub renewed_bytes : List ℕ → ℕ → Bool → List ℕ
 renewed_bytes bytes g y = sealed (with_dirty (with_generation bytes g) 0 y)

@@ -1,5 +1,0 @@
-use Rattle.block_words.proofs.Renewal.{renewal}
-use Rattle.block_words.proofs.edit_of_a_round.Goals as goal
-
-pub returns : goal.returns
-returns c = renewal

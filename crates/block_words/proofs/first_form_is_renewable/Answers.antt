@@ -1,5 +1,0 @@
-use Rattle.block_words.proofs.Renewal.{first-form}
-use Rattle.block_words.proofs.first_form_is_renewable.Goals as goal
-
-pub returns : goal.returns
-returns c = first-form
