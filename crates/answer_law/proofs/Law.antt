@@ -2,7 +2,7 @@
 use Rattle.std.proofs.Common.{◌≡◌, ◌≢◌, ℕ, ◌<◌, ◌≤◌, ◌==◌, Bool, true, false, List, [], ◌∷◌, ◌++◌, length, refl, ap, sym, ◌∙◌, subst, arith, inl, inr, Option, Some, None, slice_set, length-append}
 use Rattle.std.proofs.lemmas.Bool.Decides.{nat_tests}
 use Rattle.std.proofs.lemmas.List.{append-nil}
-use Rattle.imsm_base.specs.declared.units.Sector.{Sector}
+use Rattle.units.specs.declared.disk.Sector.{Sector}
 use Rattle.device_log.specs.Log.{Call, What, Read, Write, Sync}
 use Rattle.array_model.specs.declared.script.OpKind.{OpKind}
 use Rattle.array_model.specs.declared.script.OpKind.TheVariants.{Write as OpWrite, Read as OpRead, Whole as OpWhole}
@@ -12,7 +12,7 @@ use Rattle.array_model.specs.declared.journal.Event.TheVariants.{Submit, Ack}
 use Rattle.array_model.specs.declared.journal.Answer.{Answer}
 use Rattle.array_model.specs.declared.journal.Answer.TheVariants.{Done, Value, Past}
 use Rattle.array_model.specs.Script.{kind_at, is_of_client}
-use Rattle.imsm_base.specs.Whole.{anchor_place}
+use Rattle.units.specs.Places.{anchor_place}
 use Rattle.array_model.specs.Blocks.{Laid}
 use Rattle.array_model.specs.Placement.{place_of}
 use Rattle.array_model.specs.Events.{AtEachFrom, has as has_event, is_submit}
@@ -25,12 +25,12 @@ use Rattle.stage_machine.specs.States.{State, IsReadonly, IsReadAuto, IsClean, I
 use Rattle.stage_machine.specs.Jobs.{JobStep, Waiting, Written, Got, Job, NoJob, Busy, Client, client_at, the_shape, sector_in, row_at, row_in, value_at, is_write, holds, Need, NoNeed, Reads, Writes, Answers, after_write, after_sync}
 use Rattle.stage_machine.specs.Machine.{Control, need_now, GaveOf, stamped, calls_after, log_after}
 use Rattle.stage_machine.proofs.Turns.{Turns, Has, nothing, fails, anchors, settles, ends, begins, readies, actives, cleans, rests, pasts, asks_read, asks_write, puts, syncs, gets, acks}
-use Rattle.stage_machine.proofs.Clients.{Mine, of_left, of_job, IsJob, at_set, there_left, there_busy, row_below, NeedIn, need_in}
+use Rattle.stage_machine.proofs.Clients.{Mine, of_left, of_job, IsJob, at_set, there_left, there_busy, row_below, NeedIn, need_in, kind_first, one_submit}
 use Rattle.stage_machine.proofs.Targets.{call}
 use Rattle.answer_law.proofs.Order.{not_other}
 use Rattle.answer_law.proofs.JobKinds.{Fits, fits_of, is_read_kind}
 use Rattle.answer_law.proofs.Locks.{job_of, alone_now}
-use Rattle.answer_law.proofs.Rows.{stood, at_row, Spares, spares_read, spares_sync, spares_write, stood_spared, stood_put, other_row, anchor_spares, con, unsure, Plain, plain_con, plain_unsure, kind_first, row_is, done_here, done_there, sure_there, given_now, submitted_most}
+use Rattle.answer_law.proofs.Rows.{stood, at_row, Spares, spares_read, spares_sync, spares_write, stood_spared, stood_put, other_row, anchor_spares, con, unsure, Plain, plain_con, plain_unsure, row_is, done_here, done_there, sure_there, given_now, submitted_most}
 use Rattle.answer_law.proofs.Values.{WrittenBut, StepVals, JobVals, writes_row, NoWriter, Vals, needs, written_but, written_all, answers_from, reads_waits, writes_own, writes_after_write, writes_after_sync, writes_holds, no_writer_back, carry_job, given_later}
 
 -- CALM TURNS: no row is written, and no write is acknowledged as done
@@ -337,14 +337,6 @@ module _ (S : Setting) (asks : AsksFirst S) (volume : IsFirstVolume S) (log : Li
   plain_state i IsActive = record { content_same = λ row x. refl; none_done = λ row. refl }
   plain_state i IsIdle = record { content_same = λ row x. refl; none_done = λ row. refl }
 
-  one_submit : (i : ℕ) (state : State) (m : ℕ) → (i == m) ≡ false → has_event (is_submit m) (record { stamp = n; event = Submit i } ∷ stamped n (asked_events state)) ≡ false
-  one_submit i IsReadonly m apart = rw apart refl
-  one_submit i IsReadAuto m apart = rw apart refl
-  one_submit i IsClean m apart = rw apart refl
-  one_submit i IsPending m apart = rw apart refl
-  one_submit i IsActive m apart = rw apart refl
-  one_submit i IsIdle m apart = rw apart refl
-
   pub vals_turns : {call : Option Call} {es : List Event} {next : Control} → Turns S c got call es next → GaveOf S log got call → next.failed ≡ None
       → Vals S (log_after log call) (journal ++ stamped (calls_after n call) es) next.clients
   vals_turns nothing gave alive = same_none [] (plain_none S volume) (λ i. refl)
@@ -362,7 +354,7 @@ module _ (S : Setting) (asks : AsksFirst S) (volume : IsFirstVolume S) (log : Li
   vals_turns (asks_read k i rest place here is w ready) gave alive =
       submits (record { stamp = n; event = Submit i } ∷ []) k i rest (Busy i Waiting) here (record { content_same = λ row x. refl; none_done = λ row. refl }) (λ m apart. rw apart refl) tt
   vals_turns (asks_write k i rest place here is w ready) gave alive =
-      submits (record { stamp = n; event = Submit i } ∷ stamped n (asked_events c.state)) k i rest (Busy i Waiting) here (plain_state i c.state) (one_submit i c.state) tt
+      submits (record { stamp = n; event = Submit i } ∷ stamped n (asked_events c.state)) k i rest (Busy i Waiting) here (plain_state i c.state) (one_submit n i c.state) tt
   vals_turns (puts k i left step d ds here need) gave alive = vals_put k i left step d ds here need
   vals_turns (syncs k i left step d ds here need) gave alive =
       let before = written_all S c k i log journal step d ds (needs S c k i step _ need (λ none. absurd cc)) (step_vals k i left step here) in

@@ -1,7 +1,8 @@
 -- No row is held by two clients.
 use Rattle.std.proofs.Common.{◌≡◌, ◌≢◌, ℕ, zero, suc, ◌+◌, ◌<◌, ◌==◌, ◌||◌, ◌&&◌, not, Bool, true, false, List, [], ◌∷◌, length, refl, ap, sym, ◌∙◌, subst, arith, inl, inr, Option, slice_set}
 use Rattle.std.proofs.lemmas.Bool.Decides.{nat_tests}
-use Rattle.imsm_base.specs.declared.units.Sector.{Sector}
+use Rattle.std.proofs.lemmas.Bool.{or_parts}
+use Rattle.units.specs.declared.disk.Sector.{Sector}
 use Rattle.device_log.specs.Log.{Call}
 use Rattle.array_model.specs.declared.journal.Event.{Event}
 use Rattle.stage_machine.specs.Setting.{Setting}
@@ -31,11 +32,7 @@ locked_other S row k from (x ∷ xs) zero free apart = at (from == k) refl (hold
     at false is false h free = h
 locked_other S row k from (x ∷ xs) (suc t) free apart =
     let moved : from + 1 + t ≢ k = λ e. apart (omega (arith, e)) in
-    locked_other S row k (from + 1) xs t (right (not (from == k) && holds S row x.job) (locked_from S row k (from + 1) xs) free) moved
-  where
-    right : (a b : Bool) → (a || b) ≡ false → b ≡ false
-    right true b h = absurd cc
-    right false b h = h
+    locked_other S row k (from + 1) xs t (or_parts (not (from == k) && holds S row x.job) (locked_from S row k (from + 1) xs) free).1 moved
 
 -- a job that needs something isn't held, so nobody else holds its row
 pub alone_now : (S : Setting) (c : Control) (k i : ℕ) (step : JobStep) (need : Need) → need_now S c k i step ≡ need → (NoNeed ≡ need → ⊥) → Alone S c.clients k (row_at S i)

@@ -1,11 +1,11 @@
 -- What stands at a row of a member, from call to call; and what the journal says of the row.
-use Rattle.std.proofs.Common.{◌≡◌, ℕ, zero, suc, ◌+◌, ◌-◌, ◌<◌, ◌≤◌, ◌==◌, ◌||◌, ◌&&◌, not, Bool, true, false, if◌then◌else◌, nat_lt, List, [], ◌∷◌, ◌++◌, length, take, refl, ap, sym, ◌∙◌, subst, arith, Option, Some, None, slice_get}
+use Rattle.std.proofs.Common.{◌≡◌, ℕ, zero, suc, ◌+◌, ◌-◌, ◌<◌, ◌≤◌, ◌==◌, ◌||◌, ◌&&◌, not, Bool, true, false, if◌then◌else◌, nat_lt, List, [], ◌∷◌, ◌++◌, length, take, refl, ap, sym, ◌∙◌, arith, Option, Some, None, slice_get}
 use Rattle.std.specs.List.{AllByRecursion}
 use Rattle.std.proofs.lemmas.Bool.Decides.{nat_tests}
 use Rattle.std.proofs.lemmas.List.{take-append-le, take_all}
-use Rattle.imsm_base.specs.declared.units.Sector.{Sector}
-use Rattle.imsm_base.specs.declared.units.Level.TheVariants.{One}
-use Rattle.imsm_base.specs.Whole.{anchor_place}
+use Rattle.units.specs.declared.disk.Sector.{Sector}
+use Rattle.units.specs.declared.volume.Level.TheVariants.{One}
+use Rattle.units.specs.Places.{anchor_place}
 use Rattle.device_log.specs.Log.{Call, What, Read, Write, Sync}
 use Rattle.device_log.specs.Cells.{Cell, cell_at}
 use Rattle.array_model.specs.declared.script.Op.{Op}
@@ -21,9 +21,10 @@ use Rattle.array_model.specs.Content.{content, content_from, content_at, is_rewr
 use Rattle.array_model.specs.AnswerLaw.{IsGiven, submitted_from}
 use Rattle.array_model.proofs.Journals.{has-append}
 use Rattle.stage_machine.specs.Setting.{Setting, has}
-use Rattle.stage_machine.specs.Opens.{AsksFirst, IsInFirst, IsFirstVolume}
+use Rattle.stage_machine.specs.Opens.{AsksFirst, IsFirstVolume}
 use Rattle.stage_machine.specs.Jobs.{the_shape, place_at, row_at, row_in, value_at, value_in, sector_in, is_write, is_write_kind}
 use Rattle.stage_machine.proofs.Targets.{disk, call, on_disk, off_disk}
+use Rattle.stage_machine.proofs.Clients.{kind_first}
 
 -- the sector that stands at a row of a disk
 abbrev pub at_row : Setting → ℕ → ℕ
@@ -102,11 +103,6 @@ plain_unsure S journal new plain row =
     ap (λ b. S.start.unsure 0 row && not b) same
 
 -- OPERATIONS
-
-pub kind_first : (ops : List Op) (i : ℕ) (kind : OpKind) → AllByRecursion (λ op. IsInFirst op.kind) ops → kind_at ops i ≡ Some kind → IsInFirst kind
-kind_first [] i kind all is = absurd cc
-kind_first (op ∷ ops) zero kind all is = let same : op.kind ≡ kind = cc is in subst IsInFirst same all.0
-kind_first (op ∷ ops) (suc i) kind all is = kind_first ops i kind all.1 is
 
 -- the row of a place is the sector
 pub row_is : (S : Setting) → (the_shape S).level ≡ Some One → (i : ℕ) (place : Place) → place_at S i ≡ Some place → row_at S i ≡ sector_in (kind_at S.asked.ops i)

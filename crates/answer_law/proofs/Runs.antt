@@ -1,9 +1,9 @@
 -- The answer law over every honest run.
-use Rattle.std.proofs.Common.{◌≡◌, ℕ, ◌≤◌, ◌&&◌, Bool, true, false, List, [], ◌∷◌, ◌++◌, length, refl, ap, sym, ◌∙◌, subst, arith, inl, inr, Option, Some, None}
+use Rattle.std.proofs.Common.{◌≡◌, ℕ, ◌≤◌, Bool, true, false, List, [], ◌∷◌, ◌++◌, length, ap, sym, ◌∙◌, subst, arith, inl, inr, Option, Some, None}
 use Rattle.std.specs.List.{AllByRecursion}
-use Rattle.imsm_base.specs.declared.units.Sector.{Sector}
+use Rattle.std.proofs.Math.Bool.{and-true}
+use Rattle.units.specs.declared.disk.Sector.{Sector}
 use Rattle.device_log.specs.Log.{Call}
-use Rattle.device_log.specs.Cells.{resting}
 use Rattle.array_model.specs.declared.script.OpKind.{OpKind}
 use Rattle.array_model.specs.declared.script.OpKind.TheVariants.{Write as OpWrite, Read as OpRead, Whole as OpWhole}
 use Rattle.array_model.specs.declared.journal.Entry.{Entry}
@@ -15,7 +15,6 @@ use Rattle.array_model.specs.Placement.{Place, place_of}
 use Rattle.array_model.specs.Events.{AtEach, AtEachFrom}
 use Rattle.array_model.specs.Moments.{AllBelow}
 use Rattle.array_model.specs.Content.{is_still_unsure}
-use Rattle.array_model.specs.Candidates.{opened, opened_with, standing}
 use Rattle.array_model.specs.AnswerLaw.{AnswerLaw, ValueAt, ValueOf, IsValue, IsGivenAt, IsGivenOrXor, IsGiven, submitted_from}
 use Rattle.array_model.proofs.Journals.{at_each_more}
 use Rattle.array_model.specs.Renewal.{FitsGeneration}
@@ -34,6 +33,7 @@ use Rattle.answer_law.proofs.JobKinds.{fits_reached, whole_each, acks_reached, r
 use Rattle.answer_law.proofs.Rows.{at_row, given_more}
 use Rattle.answer_law.proofs.Values.{JobVals, Vals}
 use Rattle.answer_law.proofs.Law.{vals_turns, values_turns}
+use Rattle.stage_machine.proofs.Cells.{opened_cells}
 
 pub reached_of : (S : Setting) (w : World) → Honest S w → Reached S w
 reached_of S w opens_true = opens
@@ -84,25 +84,14 @@ pub record Kept (S : Setting) (w : World) : Type 0 where
   pub vals : w.control.failed ≡ None → Vals S w.log w.journal w.control.clients
   pub values : AtEach (λ front e. ValueAt S.start S.asked.ops w.log front e.stamp e.event) w.journal
 
-and_true : (b : Bool) → (b && true) ≡ false → b ≡ false
-and_true true h = absurd cc
-and_true false h = refl
-
 module _ (S : Setting) (asks : AsksFirst S) (renews : Renews S) (on : StandsOnAll S) (volume : IsFirstVolume S) (holds : HoldsContent S) where
-  opened_cells : (d p : ℕ) → (opened S.start.words S.start.disks d).cells p ≡ resting (S.start.disks.opening d p)
-  opened_cells d p = at (S.start.words.is_whole (S.start.disks.serial d) (S.start.disks.sectors d) (standing S.start.words (S.start.disks.sectors d) (λ p. resting (S.start.disks.opening d p))))
-    where
-      at : (b : Bool) → (opened_with S.start.words (λ p. resting (S.start.disks.opening d p)) (standing S.start.words (S.start.disks.sectors d) (λ p. resting (S.start.disks.opening d p))) b).cells p ≡ resting (S.start.disks.opening d p)
-      at true = refl
-      at false = refl
-
   vals_start : Vals S [] [] (clients_of S)
   vals_start = record {
     jobs = λ k. elim (at_start S k) [
       | inl first ↦ subst (λ (x : Client). JobVals S [] [] x.job) (sym first.1) tt
       | inr past ↦ subst (λ (x : Client). JobVals S [] [] x.job) (sym past.1) tt
     ];
-    free = λ row d below no_writer member sure. ap (λ (c : _). c.stood) (opened_cells d (at_row S row)) ∙ holds row d below (and_true (S.start.unsure 0 row) sure) member;
+    free = λ row d below no_writer member sure. ap (λ (c : _). c.stood) (opened_cells S.start.words S.start.disks d (at_row S row)) ∙ holds row d below (sym (and-true (S.start.unsure 0 row)) ∙ sure) member;
   }
 
   kept_after : (w : World) (r : Reached S w) (a : Action) → TrueTurn S w a → Kept S w → Kept S (happens S w a)

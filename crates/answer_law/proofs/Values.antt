@@ -1,8 +1,8 @@
 -- What the members hold at each row, against the journal and the clients' jobs.
 use Rattle.std.proofs.Common.{◌≡◌, ℕ, ◌<◌, ◌==◌, Bool, true, false, List, [], ◌∷◌, ◌++◌, length, refl, ap, sym, ◌∙◌, subst, arith, ◌⊎◌, inl, inr, Option, Some, None, slice_set, length-append}
 use Rattle.std.specs.Prelude.{⊤}
-use Rattle.std.proofs.lemmas.Bool.Decides.{nat_tests}
-use Rattle.imsm_base.specs.declared.units.Sector.{Sector}
+use Rattle.std.proofs.lemmas.Bool.{eq-eqb}
+use Rattle.units.specs.declared.disk.Sector.{Sector}
 use Rattle.device_log.specs.Log.{Call}
 use Rattle.array_model.specs.declared.script.OpKind.{OpKind}
 use Rattle.array_model.specs.declared.script.OpKind.TheVariants.{Write as OpWrite, Read as OpRead, Whole as OpWhole}
@@ -236,22 +236,10 @@ pub carry_job : (S : Setting) (log : List Call) (journal : List Entry) (more : L
     → JobVals S log journal job → JobVals S more later job
 carry_job S log journal more later NoJob carry vals = tt
 carry_job S log journal more later (Busy i Waiting) carry vals = tt
-carry_job S log journal more later (Busy i (Writing left)) carry vals = carry_step S log journal more later i (Writing left) (carry i (Writing left) refl (itself i)) vals
-  where
-    itself : (n : ℕ) → (row_at S n == row_at S n) ≡ true
-    itself n = grind (arith, nat_tests)
-carry_job S log journal more later (Busy i (Syncing left)) carry vals = carry_step S log journal more later i (Syncing left) (carry i (Syncing left) refl (itself i)) vals
-  where
-    itself : (n : ℕ) → (row_at S n == row_at S n) ≡ true
-    itself n = grind (arith, nat_tests)
-carry_job S log journal more later (Busy i Written) carry vals = carry_step S log journal more later i Written (carry i Written refl (itself i)) vals
-  where
-    itself : (n : ℕ) → (row_at S n == row_at S n) ≡ true
-    itself n = grind (arith, nat_tests)
-carry_job S log journal more later (Busy i (Got v)) carry vals = carry_step S log journal more later i (Got v) (carry i (Got v) refl (itself i)) vals
-  where
-    itself : (n : ℕ) → (row_at S n == row_at S n) ≡ true
-    itself n = grind (arith, nat_tests)
+carry_job S log journal more later (Busy i (Writing left)) carry vals = carry_step S log journal more later i (Writing left) (carry i (Writing left) refl (eq-eqb (row_at S i) (row_at S i) refl)) vals
+carry_job S log journal more later (Busy i (Syncing left)) carry vals = carry_step S log journal more later i (Syncing left) (carry i (Syncing left) refl (eq-eqb (row_at S i) (row_at S i) refl)) vals
+carry_job S log journal more later (Busy i Written) carry vals = carry_step S log journal more later i Written (carry i Written refl (eq-eqb (row_at S i) (row_at S i) refl)) vals
+carry_job S log journal more later (Busy i (Got v)) carry vals = carry_step S log journal more later i (Got v) (carry i (Got v) refl (eq-eqb (row_at S i) (row_at S i) refl)) vals
 
 -- what a read gave stays given in a longer log and journal
 pub given_later : (S : Setting) (log : List Call) (journal new : List Entry) (x : Option Call) (i : ℕ) (v : Sector) → has_event (is_submit i) new ≡ false

@@ -1,7 +1,8 @@
 -- An operation that was submitted was answered, or a client has a job of it.
 use Rattle.std.proofs.Common.{◌≡◌, ℕ, ◌<◌, ◌==◌, ◌||◌, Bool, true, false, List, ◌++◌, length, refl, ap, sym, ◌∙◌, arith, ◌⊎◌, inl, inr, Option, slice_set}
 use Rattle.std.proofs.lemmas.Bool.Decides.{nat_tests}
-use Rattle.imsm_base.specs.declared.units.Sector.{Sector}
+use Rattle.std.proofs.lemmas.Bool.{or_left, or_right, or_cases}
+use Rattle.units.specs.declared.disk.Sector.{Sector}
 use Rattle.device_log.specs.Log.{Call}
 use Rattle.array_model.specs.declared.journal.Entry.{Entry}
 use Rattle.array_model.specs.declared.journal.Event.{Event}
@@ -29,27 +30,15 @@ IsShown clients journal i = (has (is_ack_of i) journal ≡ true) ⊎ ((k : ℕ) 
 abbrev pub AreShown : List Client → List Entry → Type 0
 AreShown clients journal = (i : ℕ) → has (is_submit i) journal ≡ true → IsShown clients journal i
 
-or_first : (a b : Bool) → a ≡ true → (a || b) ≡ true
-or_first true b h = refl
-or_first false b h = absurd cc
-
-or_second : (a b : Bool) → b ≡ true → (a || b) ≡ true
-or_second true b h = refl
-or_second false b h = h
-
-or_either : (a b : Bool) → (a || b) ≡ true → (a ≡ true) ⊎ (b ≡ true)
-or_either true b h = inl refl
-or_either false b h = inr h
-
 has_before : (test : Event → Bool) (xs ys : List Entry) → has test xs ≡ true → has test (xs ++ ys) ≡ true
-has_before test xs ys h = has-append test xs ys ∙ or_first (has test xs) (has test ys) h
+has_before test xs ys h = has-append test xs ys ∙ or_left (has test xs) (has test ys) h
 
 has_behind : (test : Event → Bool) (xs ys : List Entry) → has test ys ≡ true → has test (xs ++ ys) ≡ true
-has_behind test xs ys h = has-append test xs ys ∙ or_second (has test xs) (has test ys) h
+has_behind test xs ys h = has-append test xs ys ∙ or_right (has test xs) (has test ys) h
 
 -- where an operation comes from
 has_where : (test : Event → Bool) (xs ys : List Entry) → has test (xs ++ ys) ≡ true → (has test xs ≡ true) ⊎ (has test ys ≡ true)
-has_where test xs ys h = or_either (has test xs) (has test ys) (sym (has-append test xs ys) ∙ h)
+has_where test xs ys h = or_cases (has test xs) (has test ys) (sym (has-append test xs ys) ∙ h)
 
 -- the clients stay, and nothing is submitted
 same_shown : (clients : List Client) (journal new : List Entry) → ((i : ℕ) → has (is_submit i) new ≡ false) → AreShown clients journal → AreShown clients (journal ++ new)
@@ -136,7 +125,7 @@ shown_turns S c got n journal (gets k i left step d here need) old =
     set_shown c.clients k _ journal _ (there_busy c k i left step here) (λ j busy. inl (sym (ap (λ (y : Client). is_busy_with j y.job) here) ∙ busy)) (λ j asked. absurd cc) old
 shown_turns S c got n journal (acks k i left step answer here need) old =
     set_shown c.clients k _ journal _ (there_busy c k i left step here)
-    (λ j busy. inr (or_first (i == j) false (sym (ap (λ (y : Client). is_busy_with j y.job) here) ∙ busy))) (λ j asked. absurd cc) old
+    (λ j busy. inr (or_left (i == j) false (sym (ap (λ (y : Client). is_busy_with j y.job) here) ∙ busy))) (λ j asked. absurd cc) old
 
 pub shown_reached : (S : Setting) (w : World) → Reached S w → AreShown w.control.clients w.journal
 shown_reached S w opens = λ i h. absurd cc

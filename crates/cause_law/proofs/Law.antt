@@ -1,7 +1,7 @@
 -- Each entry of a turn has its cause.
 use Rattle.std.proofs.Common.{◌≡◌, ℕ, ◌+◌, ◌<◌, ◌≤◌, Bool, true, false, nat_lt, List, [], ◌∷◌, ◌++◌, refl, ap, sym, ◌∙◌, subst, arith, inl, inr, Option, Some, None}
 use Rattle.std.proofs.lemmas.Bool.Decides.{nat_tests}
-use Rattle.imsm_base.specs.declared.units.Sector.{Sector}
+use Rattle.units.specs.declared.disk.Sector.{Sector}
 use Rattle.device_log.specs.Log.{Call}
 use Rattle.array_model.specs.declared.script.OpKind.{OpKind}
 use Rattle.array_model.specs.declared.script.OpKind.TheVariants.{Write as OpWrite, Read as OpRead, Whole as OpWhole}
@@ -13,7 +13,7 @@ use Rattle.array_model.specs.declared.journal.Answer.TheVariants.{Done, Value, P
 use Rattle.array_model.specs.Script.{kind_at}
 use Rattle.array_model.specs.Events.{AtEachFrom}
 use Rattle.array_model.specs.Renewal.{FitsGeneration}
-use Rattle.array_model.specs.Causes.{note_of, GoesOn, course_of, IsBetween, ToldClosed, woken, told_of, size_of, IsTold, IsReady, IsAskedFor, IsAnswerTo, IsCaused, AreCaused}
+use Rattle.array_model.specs.Causes.{note_of, GoesOn, course_of, recorded_of, is_woken, ToldClosed, woken, told_of, size_of, IsTold, IsReady, IsAskedFor, IsAnswerTo, IsCaused, AreCaused}
 use Rattle.array_model.proofs.Journals.{at_each_more}
 use Rattle.stage_machine.specs.Setting.{Setting, Renews}
 use Rattle.stage_machine.specs.Opens.{AsksFirst, StandsOnAll, IsFirstVolume}
@@ -21,12 +21,12 @@ use Rattle.stage_machine.specs.States.{State, IsReadonly, IsReadAuto, IsClean, I
 use Rattle.stage_machine.specs.Jobs.{place_at, is_write, is_write_kind, Answers}
 use Rattle.stage_machine.specs.Machine.{Control, World, Reached, opens, goes, stamped, calls_after, turned, call_of, got_of}
 use Rattle.stage_machine.proofs.Turns.{Turns, turns_of, IsPast, is_row_kind, nothing, fails, anchors, settles, ends, begins, readies, actives, cleans, rests, pasts, asks_read, asks_write, puts, syncs, gets, acks}
-use Rattle.stage_machine.proofs.Clients.{Mine, mine_reached, of_job}
+use Rattle.stage_machine.proofs.Clients.{Mine, mine_reached, of_job, kind_first}
 use Rattle.stage_machine.proofs.Stands.{fitted}
-use Rattle.journal_law.proofs.Form.{kind_first}
 use Rattle.answer_law.proofs.JobKinds.{is_read, is_read_kind, Fits, fits_reached, NeedFits, need_is}
-use Rattle.cause_law.proofs.States.{is_place, op_placed, told_by, told_asked, told_reached}
+use Rattle.cause_law.proofs.States.{is_place, op_placed, inside_of, told_by, told_asked, told_reached}
 use Rattle.cause_law.proofs.Courses.{note_reached, resting_course, phase_course, course_by, course_reached, HasNote, has_note_reached}
+use Rattle.cause_law.proofs.Recorded.{Records, records_reached, begins_due, woken_by}
 use Rattle.cause_law.proofs.Answered.{AreShown, shown_reached, all_answered}
 
 -- what the journal tells, and what the clients do
@@ -35,6 +35,7 @@ pub record Kept (S : Setting) (c : Control) (journal : List Entry) : Type 0 wher
   pub note : note_of S.start journal ≡ c.round.note
   pub course : course_of journal ≡ course_by c.round
   pub generation : HasNote S c.round.note c.round.phase
+  pub recorded : Records S c.round (recorded_of S.start S.asked.ops journal)
   pub shown : AreShown c.clients journal
   pub mine : Mine S c
   pub fits : Fits S c
@@ -45,6 +46,7 @@ kept_reached S asks renews on volume w fits r = record {
   note = note_reached S w r;
   course = course_reached S w r;
   generation = has_note_reached S renews on w fits r;
+  recorded = records_reached S asks renews on volume w fits r;
   shown = shown_reached S w r;
   mine = mine_reached S w r;
   fits = fits_reached S w r;
@@ -53,9 +55,6 @@ kept_reached S asks renews on volume w fits r = record {
 -- ANSWERS
 
 module _ (S : Setting) (asks : AsksFirst S) (volume : IsFirstVolume S) (front : List Entry) (i : ℕ) where
-  sized : (v : ℕ) → v ≡ 0 → size_of S.start v ≡ size_of S.start 0
-  sized v is = ap (size_of S.start) is
-
   below : (v s : ℕ) → v ≡ 0 → nat_lt s (size_of S.start 0) ≡ true → s < size_of S.start v
   below v s is lt = subst (λ z. s < size_of S.start z) (sym is) (let less : s < size_of S.start 0 = grind (arith, nat_tests, lt) in less)
 
@@ -116,10 +115,6 @@ not_closed IsPending ready closed = absurd cc
 not_closed IsActive ready closed = absurd cc
 not_closed IsIdle ready closed = absurd cc
 
-between : (started : Bool) → IsBetween (resting_course started)
-between true = tt
-between false = tt
-
 module _ (S : Setting) (asks : AsksFirst S) (volume : IsFirstVolume S) (c : Control) (got : Sector) (n : ℕ) (journal : List Entry) (kept : Kept S c journal) where
   is_told : (state : State) → c.state ≡ state → IsTold S.start S.asked.ops journal 0 (told_by state)
   is_told state is = record { started = volume.started; state = kept.state ∙ ap told_by is }
@@ -150,10 +145,11 @@ module _ (S : Setting) (asks : AsksFirst S) (volume : IsFirstVolume S) (c : Cont
       (kept.course ∙ ap (phase_course c.round.started c.round.note) is ∙ ap (λ g. GoesOn g) (sym generation), tt)
   caused_turns (begins d ds is some why) =
       let course = kept.course ∙ ap (phase_course c.round.started c.round.note) is in
-      ((subst IsBetween (sym course) (between c.round.started), ap (λ k. k + 1) (sym kept.note)), tt)
+      ((begins_due S c journal kept.state course kept.recorded is why, ap (λ k. k + 1) (sym kept.note)), tt)
   caused_turns (readies is s t) =
       ((is_told IsReadonly t, kept.course ∙ ap (phase_course c.round.started c.round.note) is ∙ ap resting_course s), tt)
-  caused_turns (actives is s t r) = (is_told IsPending t, tt)
+  caused_turns (actives is s t r) =
+      ((is_told IsPending t, kept.course ∙ ap (phase_course c.round.started c.round.note) is ∙ ap resting_course s), tt)
   caused_turns (cleans is s t) = (is_told IsIdle t, tt)
   caused_turns (rests t calm) = ((is_told IsActive t, all_answered S asks volume c.clients journal calm kept.shown), tt)
   caused_turns (pasts k i rest has past) = (taken_caused i past.taken.row past.taken.ready, (past_caused S asks volume _ i c past, tt))
@@ -163,13 +159,16 @@ module _ (S : Setting) (asks : AsksFirst S) (volume : IsFirstVolume S) (c : Cont
       behind : List Entry
       behind = journal ++ record { stamp = n; event = Submit i } ∷ []
 
+      wakes : is_woken S.start S.asked.ops behind 0 ≡ true
+      wakes = woken_by S.start S.asked.ops 0 n i journal (inside_of S asks volume i w (ap (λ p. is_place p) is))
+
       told_behind : (state : State) → c.state ≡ state → woken (told_by state) ≡ told_by state → IsTold S.start S.asked.ops behind 0 (told_by state)
       told_behind state t stays = record { started = volume.started; state = told_asked S.start S.asked.ops 0 (told_by state) journal n i (kept.state ∙ ap told_by t) stays }
 
       at : (state : State) → c.state ≡ state → AtEachFrom (λ front e. Caused front e.event) behind (stamped n (asked_events state))
       at IsReadonly t = tt
-      at IsReadAuto t = (inl (told_behind IsReadAuto t refl), tt)
-      at IsClean t = (inr (told_behind IsClean t refl), tt)
+      at IsReadAuto t = ((inl (told_behind IsReadAuto t refl), wakes), tt)
+      at IsClean t = ((inr (told_behind IsClean t refl), wakes), tt)
       at IsPending t = tt
       at IsActive t = tt
       at IsIdle t = tt

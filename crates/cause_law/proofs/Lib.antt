@@ -1,5 +1,6 @@
 pub mod States
 pub mod Courses
+pub mod Recorded
 pub mod Answered
 pub mod Law
 pub mod Short

@@ -1,7 +1,8 @@
 -- The state of volume 0 that the journal tells is that of the machine.
 use Rattle.std.proofs.Common.{◌≡◌, ℕ, ◌==◌, ◌&&◌, Bool, true, false, nat_lt, if◌then◌else◌, List, [], ◌∷◌, ◌++◌, refl, ap, sym, ◌∙◌, Option, Some, None}
-use Rattle.imsm_base.specs.declared.units.Sector.{Sector}
-use Rattle.imsm_base.specs.declared.units.Level.TheVariants.{One}
+use Rattle.std.proofs.lemmas.Bool.{and_right, and_from, and_parts}
+use Rattle.units.specs.declared.disk.Sector.{Sector}
+use Rattle.units.specs.declared.volume.Level.TheVariants.{One}
 use Rattle.device_log.specs.Log.{Call}
 use Rattle.array_model.specs.declared.script.Op.{Op}
 use Rattle.array_model.specs.declared.script.OpKind.{OpKind}
@@ -19,7 +20,7 @@ use Rattle.stage_machine.specs.States.{State, IsReadonly, IsReadAuto, IsClean, I
 use Rattle.stage_machine.specs.Jobs.{the_shape, sector_in, place_at, is_write, is_write_kind}
 use Rattle.stage_machine.specs.Machine.{Control, World, Reached, opens, goes, stamped, calls_after, turned, call_of, got_of}
 use Rattle.stage_machine.proofs.Turns.{Turns, turns_of, nothing, fails, anchors, settles, ends, begins, readies, actives, cleans, rests, pasts, asks_read, asks_write, puts, syncs, gets, acks}
-use Rattle.journal_law.proofs.Form.{kind_first}
+use Rattle.stage_machine.proofs.Clients.{kind_first}
 
 -- A SECTOR OF THE VOLUME
 
@@ -50,21 +51,13 @@ inside_is S asks volume i = at (kind_at S.asked.ops i) refl
     at (Some (OpRead v s)) is = refl
     at (Some (OpWhole v)) is = refl
 
-and_false : (a b : Bool) → b ≡ false → (a && b) ≡ false
-and_false true b h = h
-and_false false b h = refl
-
-and_true : (a b : Bool) → a ≡ true → b ≡ true → (a && b) ≡ true
-and_true true b g h = h
-and_true false b g h = absurd cc
-
-and_first : (a b : Bool) → (a && b) ≡ true → a ≡ true
-and_first true b h = refl
-and_first false b h = h
-
 -- a write inside the volume is a write
 pub inside_writes : (S : Setting) → AsksFirst S → IsFirstVolume S → (i : ℕ) → is_write_inside S.start S.asked.ops 0 i ≡ true → is_write S i ≡ true
-inside_writes S asks volume i h = and_first (is_write S i) (is_place (place_at S i)) (sym (inside_is S asks volume i) ∙ h)
+inside_writes S asks volume i h = (and_parts (is_write S i) (is_place (place_at S i)) (sym (inside_is S asks volume i) ∙ h)).0
+
+-- a write to a sector that has a place is inside the volume
+pub inside_of : (S : Setting) → AsksFirst S → IsFirstVolume S → (i : ℕ) → is_write S i ≡ true → is_place (place_at S i) ≡ true → is_write_inside S.start S.asked.ops 0 i ≡ true
+inside_of S asks volume i w placed = inside_is S asks volume i ∙ and_from (is_write S i) (is_place (place_at S i)) w placed
 
 -- STATES
 
@@ -108,12 +101,12 @@ module _ (S : Setting) (asks : AsksFirst S) (volume : IsFirstVolume S) where
   told_turns c got n (rests t calm) = refl
   told_turns c got n (pasts k i rest has past) =
       let outside : is_write_inside S.start S.asked.ops 0 i ≡ false =
-      inside_is S asks volume i ∙ and_false (is_write S i) (is_place (place_at S i)) (ap (λ p. is_place p) past.none) in
+      inside_is S asks volume i ∙ and_right (is_write S i) (is_place (place_at S i)) (ap (λ p. is_place p) past.none) in
       rw outside refl
   told_turns c got n (asks_read k i rest place has is w ready) =
       let outside : is_write_inside S.start S.asked.ops 0 i ≡ false = inside_is S asks volume i ∙ ap (λ b. b && is_place (place_at S i)) w in
       rw outside refl
-  told_turns c got n (asks_write k i rest place has is w ready) = at c.state (inside_is S asks volume i ∙ and_true (is_write S i) (is_place (place_at S i)) w (ap (λ p. is_place p) is))
+  told_turns c got n (asks_write k i rest place has is w ready) = at c.state (inside_is S asks volume i ∙ and_from (is_write S i) (is_place (place_at S i)) w (ap (λ p. is_place p) is))
     where
       at : (state : State) → is_write_inside S.start S.asked.ops 0 i ≡ true → tell (told_by state) (stamped n (Submit i ∷ asked_events state)) ≡ told_by (asked_state state)
       at IsReadonly inside = rw inside refl

@@ -10,7 +10,7 @@ use Rattle.array_model.specs.Blocks.{SlotWords}
 use Rattle.array_model.specs.Renewal.{FitsGeneration}
 use Rattle.array_model.specs.Events.{AtEachFrom, last_stamp, stamp_from}
 use Rattle.array_model.specs.Moments.{AllBelow, EachCall, EachCallFrom}
-use Rattle.array_model.specs.FailureLaw.{FailureLaw, AllWent, FailsLast, EndsAtFailure, IsRecordedFor, AckOverFaults, IsTold, BeginKeeps, pass_at, pass_from, BeginCounts}
+use Rattle.array_model.specs.FailureLaw.{FailureLaw, AllWent, FailsLast, EndsAtFailure, IsRecordedFor, AckOverFaults, HasItsFault, BeginKeeps, pass_at, pass_from, BeginCounts}
 use Rattle.array_model.proofs.Journals.{all-append, each_call}
 use Rattle.stage_machine.specs.Setting.{Setting, Renews}
 use Rattle.stage_machine.specs.Opens.{StandsOnAll, IsFirstVolume}
@@ -44,20 +44,20 @@ stamp_below n c (e ∷ es) le below = stamp_below e.stamp c es below.0 below.1
 
 -- the last call of a log, with k calls before it
 told_last : (journal : List Entry) (k : ℕ) (before : List Call) (last : Call) → AllWent before → last_stamp journal ≤ k + length before + 1
-    → EachCallFrom (λ n call. IsTold journal n call) k (before ++ last ∷ [])
+    → EachCallFrom (λ n call. HasItsFault journal n call) k (before ++ last ∷ [])
 told_last journal k [] last went le = (λ failed early. absurd (omega (arith, le, early)), tt)
 told_last journal k (x ∷ xs) last went le =
     (λ failed early. absurd (let through = went.0 in cc (through, failed)), told_last journal (k + 1) xs last went.1 (omega (arith, le)))
 
-told_went : (journal : List Entry) (log : List Call) → AllWent log → EachCall (λ n call. IsTold journal n call) log
-told_went journal log went = each_call (λ n call. IsTold journal n call) (λ (x : Call). x.went ≡ true) (λ n call through failed early. absurd (cc (through, failed))) 0 log went
+told_went : (journal : List Entry) (log : List Call) → AllWent log → EachCall (λ n call. HasItsFault journal n call) log
+told_went journal log went = each_call (λ n call. HasItsFault journal n call) (λ (x : Call). x.went ≡ true) (λ n call through failed early. absurd (cc (through, failed))) 0 log went
 
-told_fails : (journal : List Entry) (log : List Call) (d : ℕ) → last_stamp journal ≤ length log → FailsLast d log → EachCall (λ n call. IsTold journal n call) log
+told_fails : (journal : List Entry) (log : List Call) (d : ℕ) → last_stamp journal ≤ length log → FailsLast d log journal → EachCall (λ n call. HasItsFault journal n call) log
 told_fails journal log d le it =
     let size : length log ≡ length it.before + 1 = ap (λ (xs : List Call). length xs) it.parts ∙ length-append it.before (it.last ∷ []) in
-    subst (EachCall (λ n call. IsTold journal n call)) (sym it.parts) (told_last journal 0 it.before it.last it.went (omega (arith, le, size)))
+    subst (EachCall (λ n call. HasItsFault journal n call)) (sym it.parts) (told_last journal 0 it.before it.last it.went (omega (arith, le, size)))
 
-told_all : (journal : List Entry) (log : List Call) (failed : Option ℕ) → last_stamp journal ≤ length log → EndsAtFailure log failed → EachCall (λ n call. IsTold journal n call) log
+told_all : (journal : List Entry) (log : List Call) (failed : Option ℕ) → last_stamp journal ≤ length log → EndsAtFailure log journal failed → EachCall (λ n call. HasItsFault journal n call) log
 told_all journal log None le all = told_went journal log all
 told_all journal log (Some d) le last = told_fails journal log d le last
 

@@ -1,11 +1,10 @@
 -- The write gate law, kept by each turn.
-use Rattle.std.proofs.Common.{◌≡◌, ℕ, zero, suc, ◌==◌, Bool, true, false, List, [], ◌∷◌, ◌++◌, length, take, refl, ap, sym, ◌∙◌, subst, arith, append_assoc, ◌⊎◌, inl, inr, Option, Some, None}
+use Rattle.std.proofs.Common.{◌≡◌, ℕ, ◌==◌, Bool, true, false, List, [], ◌∷◌, ◌++◌, length, take, refl, ap, sym, ◌∙◌, subst, arith, append_assoc, ◌⊎◌, inl, inr, Option, Some, None}
 use Rattle.std.specs.List.{AllByRecursion}
 use Rattle.std.proofs.lemmas.Bool.Decides.{nat_tests}
 use Rattle.std.proofs.lemmas.List.{take_all}
-use Rattle.imsm_base.specs.declared.units.Sector.{Sector}
+use Rattle.units.specs.declared.disk.Sector.{Sector}
 use Rattle.device_log.specs.Log.{Call}
-use Rattle.array_model.specs.declared.script.Op.{Op}
 use Rattle.array_model.specs.declared.script.OpKind.{OpKind}
 use Rattle.array_model.specs.declared.script.OpKind.TheVariants.{Write as OpWrite, Read as OpRead, Whole as OpWhole}
 use Rattle.array_model.specs.declared.journal.Entry.{Entry}
@@ -13,46 +12,36 @@ use Rattle.array_model.specs.declared.journal.Event.{Event}
 use Rattle.array_model.specs.declared.journal.Event.TheVariants.{Submit}
 use Rattle.array_model.specs.Script.{kind_at, write_at, target_in}
 use Rattle.array_model.specs.Blocks.{Laid}
-use Rattle.array_model.specs.Events.{AtEach, AtEachFrom, is_live, live_at, live_from}
+use Rattle.array_model.specs.Events.{AtEachFrom, is_live, live_at, live_from}
 use Rattle.array_model.specs.Moments.{AllBelow}
-use Rattle.array_model.specs.Candidates.{Disk}
 use Rattle.array_model.specs.Rounds.{DurableOnWorking}
 use Rattle.array_model.specs.WriteGate.{WriteGate, IsDirty, ActiveOver, AckWhileLive, IsLiveFor, DirtyWhileLive}
-use Rattle.array_model.proofs.Journals.{at_each_more, at_each_log, all_first}
+use Rattle.array_model.proofs.Journals.{at_each_more, all_first}
 use Rattle.array_model.specs.Renewal.{FitsGeneration}
 use Rattle.stage_machine.specs.Setting.{Setting, Renews, has}
-use Rattle.stage_machine.specs.Opens.{AsksFirst, IsInFirst, StandsOnAll, IsFirstVolume}
+use Rattle.stage_machine.specs.Opens.{AsksFirst, StandsOnAll, IsFirstVolume}
 use Rattle.stage_machine.specs.Rounds.{Step, Phase, Rest, Going}
 use Rattle.stage_machine.specs.States.{State, IsReadonly, IsReadAuto, IsClean, IsPending, IsActive, IsIdle, asked_events}
 use Rattle.stage_machine.specs.Jobs.{is_write}
 use Rattle.stage_machine.specs.Machine.{Control, World, Action, Reached, opens, goes, happens, call_of, got_of, turned, stamped, calls_after, log_after}
 use Rattle.stage_machine.proofs.Turns.{Turns, turns_of, nothing, fails, anchors, settles, ends, begins, readies, actives, cleans, rests, pasts, asks_read, asks_write, puts, syncs, gets, acks}
-use Rattle.stage_machine.proofs.Moments.{always_more, always_none, EachFront, counted_reached}
-use Rattle.stage_machine.proofs.Clients.{Mine, mine_reached}
+use Rattle.stage_machine.proofs.Moments.{always_more, always_none, EachFront, counted_reached, at_each_before}
+use Rattle.stage_machine.proofs.Clients.{Mine, mine_reached, kind_first}
 use Rattle.stage_machine.proofs.Stands.{GoodRound, good_reached, fitted}
-use Rattle.stage_machine.proofs.Targets.{Stand, Held, stand_turns, stand_reached, disk}
+use Rattle.stage_machine.proofs.Targets.{Stand, stand_turns, stand_reached, disk}
+use Rattle.stage_machine.proofs.Durable.{HeldAtRest, held_at_rest, durable_as}
 use Rattle.stage_machine.proofs.Ours.{AreOurs, IsOurs, ours_reached}
-use Rattle.stage_machine.proofs.Finished.{IsFine, fine_reached, finished_good}
+use Rattle.stage_machine.proofs.Finished.{IsFine, fine_reached}
 use Rattle.gate_law.proofs.Live.{live, live-append, live_reached, others_dead, safe_reached, WritesLive, writes_reached, goes_active}
 
 -- DURABLE FACTS
 
--- what a target holds while no round is going on
-abbrev pub HeldAtRest : Setting → (last : Laid) → List Call → Type 0
-HeldAtRest S last log = (d : ℕ) → has d S.targets ≡ true → Held S last d (disk S log d) Rest
-
 module _ (S : Setting) (on : StandsOnAll S) (volume : IsFirstVolume S) where
-  -- each target holds one block alone, which is dirty where that of the last finished round is; so that is durable
+  -- a block is dirty where that of the last finished round is
   pub dirty_as : (y : Bool) (log : List Call) (journal : List Entry) (last : Laid) → AllByRecursion (IsFine S) log → HeldAtRest S last log
       → S.start.words.is_dirty last 0 ≡ y → DurableOnWorking S.start log journal (λ m. S.start.words.is_dirty m 0 ≡ y)
-  dirty_as y log journal last fine held is_so m finished d working =
-      let same = (finished_good S volume on log journal m fine finished).expects (S.start.disks.serial d) in
-      let target : has d S.targets ≡ true = sym (on.expected d) ∙ sym same ∙ working.expected in
-      let it = held d target in
-      record {
-        some = let is = ap (λ (xs : List Laid). length xs) it.stands.candidates in omega (arith, is);
-        each = subst (AllByRecursion (λ m. S.start.words.is_dirty m 0 ≡ y)) (sym it.stands.candidates) (it.says.dirty 0 ∙ is_so, tt);
-      }
+  dirty_as y log journal last fine held is_so =
+      durable_as S on volume (λ m. S.start.words.is_dirty m 0 ≡ y) log journal last fine held (λ block says. says.dirty 0 ∙ is_so)
 
   dirty_at : (log : List Call) (journal : List Entry) (last : Laid) → AllByRecursion (IsFine S) log → HeldAtRest S last log
       → S.start.words.is_dirty last 0 ≡ true → IsDirty S.start log journal 0
@@ -115,14 +104,11 @@ calm_turns S c got (syncs k i left step d ds has need) = inr tt
 calm_turns S c got (gets k i left step d has need) = inr tt
 calm_turns S c got (acks k i left step answer has need) = inr ((λ b h. h), tt)
 
--- while no round is going on, a turn's call leaves what the targets hold
-pub held_at_rest : (S : Setting) (last : Laid) (d : ℕ) (k : Disk) (phase : Phase) → phase ≡ Rest → Held S last d k phase → Held S last d k Rest
-held_at_rest S last d k phase rest h = subst (Held S last d k) rest h
-
 no_round : (p : Phase) (m : Laid) (step : Step) (left : List ℕ) → p ≡ Rest → p ≡ Going m step left → ⊥
 no_round Rest m step left a b = absurd cc
 no_round (Going x y z) m step left a b = absurd cc
 
+-- while no round is going on, a turn's call leaves what the targets hold
 module _ (S : Setting) (volume : IsFirstVolume S) (log : List Call) (c : Control) (mine : Mine S c) (good : GoodRound S c.round) (stand : Stand S log c.round) (got : Sector) where
   still_turns : {call : Option Call} {es : List Event} {next : Control} → Turns S c got call es next → c.round.phase ≡ Rest → HeldAtRest S c.round.last (log_after log call)
   still_turns nothing rest d target = held_at_rest S c.round.last d (disk S log d) c.round.phase rest (stand d target)
@@ -144,11 +130,6 @@ module _ (S : Setting) (volume : IsFirstVolume S) (log : List Call) (c : Control
   still_turns (acks k i left step answer there need) rest d target = held_at_rest S c.round.last d (disk S log d) c.round.phase rest (stand d target)
 
 -- ACKNOWLEDGED WRITES
-
-kind_first : (ops : List Op) (i : ℕ) (kind : OpKind) → AllByRecursion (λ op. IsInFirst op.kind) ops → kind_at ops i ≡ Some kind → IsInFirst kind
-kind_first [] i kind all is = absurd cc
-kind_first (op ∷ ops) zero kind all is = let same : op.kind ≡ kind = cc is in subst IsInFirst same all.0
-kind_first (op ∷ ops) (suc i) kind all is = kind_first ops i kind all.1 is
 
 -- an operation that is done is a write, and its volume is live
 live_for : (S : Setting) → AsksFirst S → (i : ℕ) (journal : List Entry) → (is_write S i ≡ true → is_live 0 journal ≡ true) → IsLiveFor (write_at S.asked.ops i) journal
@@ -233,12 +214,6 @@ actives_turn S on volume log c got n journal count fine stand (syncs k i left st
 actives_turn S on volume log c got n journal count fine stand (gets k i left step d there need) = tt
 actives_turn S on volume log c got n journal count fine stand (acks k i left step answer there need) = (tt, tt)
 
--- the entries before a turn, in the log after it
-actives_before : (S : Setting) (log : List Call) (call : Option Call) (journal : List Entry) → AllBelow (length log) journal
-    → AtEach (λ front e. Over S (take e.stamp log) front e) journal → AtEach (λ front e. Over S (take e.stamp (log_after log call)) front e) journal
-actives_before S log None journal below h = h
-actives_before S log (Some x) journal below h = at_each_log (Over S) log x [] journal below h
-
 -- RUNS
 
 module _ (S : Setting) (asks : AsksFirst S) (renews : Renews S) (on : StandsOnAll S) (volume : IsFirstVolume S) where
@@ -288,7 +263,7 @@ module _ (S : Setting) (asks : AsksFirst S) (renews : Renews S) (on : StandsOnAl
       let below : AllBelow (length v.log) v.journal = subst (λ z. AllBelow z v.journal) counted.calls counted.below in
       record {
         at_active = at_each_more (λ front e. Over S (take e.stamp (log_after v.log (call_of S c a))) front e) v.journal new
-            (actives_before S v.log (call_of S c a) v.journal below old.at_active)
+            (at_each_before (Over S) v.log (call_of S c a) v.journal below old.at_active)
             (actives_turn S on volume v.log c (got_of a) v.calls v.journal counted.calls (fine_reached S renews on volume v before r) (stand_reached S renews on volume v before r) t);
         at_ack = at_each_more (Acks S) v.journal new old.at_ack (acks_turn S asks c (got_of a) n v.journal (live_reached S v r) (writes_reached S v r) t);
         always = always_more (DirtyWhileLive S.start) v.log v.journal v.calls (call_of S c a) (turned S c a).events counted.calls counted.below old.always (fronts v r a fits);

@@ -1,7 +1,8 @@
 -- The state of the volume, by what the journal says and by what the clients do.
 use Rattle.std.proofs.Common.{◌≡◌, ℕ, zero, suc, ◌==◌, ◌||◌, ◌&&◌, Bool, true, false, List, [], ◌∷◌, ◌++◌, refl, ap, sym, ◌∙◌, subst, inl, inr, Option}
 use Rattle.std.specs.Prelude.{⊤}
-use Rattle.imsm_base.specs.declared.units.Sector.{Sector}
+use Rattle.std.proofs.lemmas.Bool.{or_right}
+use Rattle.units.specs.declared.disk.Sector.{Sector}
 use Rattle.device_log.specs.Log.{Call}
 use Rattle.array_model.specs.declared.journal.Entry.{Entry}
 use Rattle.array_model.specs.declared.journal.Event.{Event}
@@ -180,11 +181,7 @@ goes_active S c k i left step need live has is some w =
 pub writing_there : (S : Setting) (clients : List Client) (k : ℕ) → is_writing S (client_at clients k).job ≡ true → any_writing S clients ≡ true
 writing_there S [] k h = absurd cc
 writing_there S (x ∷ xs) zero h = rw h refl
-writing_there S (x ∷ xs) (suc k) h = right (is_writing S x.job) (writing_there S xs k h)
-  where
-    right : (b : Bool) → any_writing S xs ≡ true → (b || any_writing S xs) ≡ true
-    right true e = refl
-    right false e = e
+writing_there S (x ∷ xs) (suc k) h = or_right (is_writing S x.job) (any_writing S xs) (writing_there S xs k h)
 
 -- all go over to another state
 over : (S : Setting) (clients : List Client) (from to : State) → ((step : JobStep) → Writable from step → Writable to step) → WritesLive S from clients → WritesLive S to clients

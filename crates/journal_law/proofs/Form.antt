@@ -1,10 +1,9 @@
 -- The form of the journal is kept by each turn.
-use Rattle.std.proofs.Common.{◌≡◌, ℕ, zero, suc, ◌+◌, ◌≤◌, ◌==◌, Bool, true, false, List, [], ◌∷◌, ◌++◌, refl, subst, arith, Option, Some, None}
+use Rattle.std.proofs.Common.{◌≡◌, ℕ, ◌+◌, ◌≤◌, ◌==◌, Bool, true, false, List, [], ◌∷◌, ◌++◌, refl, subst, arith, Option, Some, None}
 use Rattle.std.specs.List.{AllByRecursion, last_or}
 use Rattle.std.proofs.lemmas.Bool.Decides.{nat_tests}
-use Rattle.imsm_base.specs.declared.units.Sector.{Sector}
+use Rattle.units.specs.declared.disk.Sector.{Sector}
 use Rattle.device_log.specs.Log.{Call}
-use Rattle.array_model.specs.declared.script.Op.{Op}
 use Rattle.array_model.specs.declared.script.OpKind.{OpKind}
 use Rattle.array_model.specs.declared.script.OpKind.TheVariants.{Write as OpWrite, Read as OpRead, Whole as OpWhole}
 use Rattle.array_model.specs.declared.journal.Entry.{Entry}
@@ -17,13 +16,13 @@ use Rattle.array_model.specs.Counts.{KeepsVolumeCounts, PendingAfter, PassAfter}
 use Rattle.array_model.proofs.Journals.{at_each_more, count-append, all-append}
 use Rattle.array_model.specs.Renewal.{FitsGeneration}
 use Rattle.stage_machine.specs.Setting.{Setting, Renews}
-use Rattle.stage_machine.specs.Opens.{AsksFirst, IsInFirst, StandsOnAll}
+use Rattle.stage_machine.specs.Opens.{AsksFirst, StandsOnAll}
 use Rattle.stage_machine.specs.States.{State, IsReadonly, IsReadAuto, IsClean, IsPending, IsActive, IsIdle, asked_events}
 use Rattle.stage_machine.specs.Jobs.{is_write, is_write_kind}
 use Rattle.stage_machine.specs.Machine.{Control, World, Action, Reached, opens, goes, happens, stamped, calls_after, turned, call_of, got_of}
 use Rattle.stage_machine.proofs.Turns.{Turns, turns_of, nothing, fails, anchors, settles, ends, begins, readies, actives, cleans, rests, pasts, asks_read, asks_write, puts, syncs, gets, acks}
 use Rattle.stage_machine.proofs.Moments.{counted_reached}
-use Rattle.stage_machine.proofs.Clients.{Mine, mine_reached, of_left, of_job, op_below}
+use Rattle.stage_machine.proofs.Clients.{Mine, mine_reached, of_left, of_job, op_below, kind_first}
 use Rattle.stage_machine.proofs.Stands.{GoodRound, good_reached, fitted}
 use Rattle.stage_machine.proofs.Ours.{AreOurs, IsOurs, ours_turn, count_none, no_pass, no_pass_end, no_fault, no_unblock, no_takeover, no_spare, no_settled, no_posted, no_ready, no_active, no_pending, no_idle, no_clean}
 use Rattle.journal_law.proofs.Tallies.{readonly, pending, awake, resting, going, due, ready_step, active_step, pending_step, idle_step, clean_step, end_step, begin_step}
@@ -42,12 +41,6 @@ pub record Kept (S : Setting) (w : World) : Type 0 where
   pub begins_due : count is_begin w.journal + due S w.control ≤ 1 + count is_any_pending w.journal + count is_any_ready w.journal + count is_any_clean w.journal
 
 -- ONE VOLUME
-
--- what a script asks for reads or writes volume 0
-pub kind_first : (ops : List Op) (i : ℕ) (kind : OpKind) → AllByRecursion (λ op. IsInFirst op.kind) ops → kind_at ops i ≡ Some kind → IsInFirst kind
-kind_first [] i kind all is = absurd cc
-kind_first (op ∷ ops) zero kind all is = let same : op.kind ≡ kind = cc is in subst IsInFirst same all.0
-kind_first (op ∷ ops) (suc i) kind all is = kind_first ops i kind all.1 is
 
 pub write_first : (S : Setting) → AsksFirst S → (i : ℕ) → is_write S i ≡ true → is_write_in S.asked.ops 0 i ≡ true
 write_first S asks i w = at (kind_at S.asked.ops i) refl w

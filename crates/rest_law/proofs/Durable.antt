@@ -6,7 +6,8 @@ use Rattle.stage_machine.specs.Opens.{AsksFirst, StandsOnAll, IsFirstVolume}
 use Rattle.stage_machine.specs.Machine.{World, Reached}
 use Rattle.stage_machine.proofs.Targets.{stand_reached, disk}
 use Rattle.stage_machine.proofs.Finished.{fine_reached}
-use Rattle.gate_law.proofs.Gate.{dirty_as, held_at_rest}
+use Rattle.stage_machine.proofs.Durable.{held_at_rest}
+use Rattle.gate_law.proofs.Gate.{dirty_as}
 use Rattle.rest_law.specs.Rest.{CanEnd, IsAtRest, IsDurablyClean}
 use Rattle.rest_law.proofs.Halts.{ended}
 

@@ -1,6 +1,6 @@
 -- Whether a turn has anything to do doesn't hang on how its call would end.
 use Rattle.std.proofs.Common.{◌≡◌, ℕ, List, [], ◌∷◌, refl, Option, Some, None}
-use Rattle.imsm_base.specs.declared.units.Sector.{Sector}
+use Rattle.units.specs.declared.disk.Sector.{Sector}
 use Rattle.stage_machine.specs.Setting.{Setting}
 use Rattle.stage_machine.specs.Rounds.{Phase, Rest, Going, Ended, round_call}
 use Rattle.stage_machine.specs.Jobs.{Job, NoJob, Busy, client_at, Need, NoNeed, Reads, Writes, Syncs, Answers, need_call}

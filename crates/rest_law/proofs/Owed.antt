@@ -1,7 +1,7 @@
 -- Where the volume is read-auto or clean, the book says so, once a round has begun since its last clean.
 use Rattle.std.proofs.Common.{◌≡◌, ℕ, Bool, true, false, List, [], ◌∷◌, ◌++◌, refl, ap, sym, ◌∙◌, subst, Option}
 use Rattle.std.specs.Prelude.{⊤}
-use Rattle.imsm_base.specs.declared.units.Sector.{Sector}
+use Rattle.units.specs.declared.disk.Sector.{Sector}
 use Rattle.device_log.specs.Log.{Call}
 use Rattle.array_model.specs.declared.journal.Entry.{Entry}
 use Rattle.array_model.specs.declared.journal.Event.{Event}

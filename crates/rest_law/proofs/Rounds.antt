@@ -1,7 +1,7 @@
 -- The book is the block of the last finished round, the targets stay, and a round that goes on has a target left.
 use Rattle.std.proofs.Common.{◌≡◌, List, [], ◌∷◌, refl, Option}
 use Rattle.std.specs.Prelude.{⊤}
-use Rattle.imsm_base.specs.declared.units.Sector.{Sector}
+use Rattle.units.specs.declared.disk.Sector.{Sector}
 use Rattle.device_log.specs.Log.{Call}
 use Rattle.array_model.specs.declared.journal.Event.{Event}
 use Rattle.stage_machine.specs.Setting.{Setting}

@@ -1,7 +1,7 @@
 -- A job that writes or syncs has a member left.
 use Rattle.std.proofs.Common.{ℕ, ◌≤◌, List, [], ◌∷◌, length, sym, subst, arith, inl, inr, Option}
 use Rattle.std.specs.Prelude.{⊤}
-use Rattle.imsm_base.specs.declared.units.Sector.{Sector}
+use Rattle.units.specs.declared.disk.Sector.{Sector}
 use Rattle.device_log.specs.Log.{Call}
 use Rattle.array_model.specs.declared.journal.Event.{Event}
 use Rattle.stage_machine.specs.Setting.{Setting}

@@ -1,8 +1,8 @@
 -- Where a journal tells that its run has come to rest, every actor rests.
 use Rattle.std.proofs.Common.{◌≡◌, ℕ, ◌<◌, ◌≤◌, ◌==◌, Bool, true, false, List, [], ◌∷◌, ◌++◌, length, refl, ap, sym, ◌∙◌, subst, arith, Option, Some, None}
 use Rattle.std.specs.Prelude.{count_by, flat_map}
-use Rattle.std.proofs.lemmas.Bool.Decides.{nat_tests}
-use Rattle.imsm_base.specs.declared.units.Sector.{Sector}
+use Rattle.std.proofs.lemmas.Bool.{eq-eqb}
+use Rattle.units.specs.declared.disk.Sector.{Sector}
 use Rattle.array_model.specs.Events.{has, is_ack_of}
 use Rattle.array_model.specs.Script.{is_of_client}
 use Rattle.array_model.specs.AnswerLaw.{Step, steps_of, steps_due}
@@ -43,12 +43,9 @@ not_twice S asks w r k i mine answered still =
     let parts = count_parts (is_step true i) steps (todo (client_at w.control.clients k)) in
     omega (arith, all, parts, still, has_counted (is_ack_of i) w.journal answered, tells_steps S.asked.ops k i mine true w.journal, due_once S.asked.ops k true i)
 
-itself : (n : ℕ) → (n == n) ≡ true
-itself n = grind (arith, nat_tests)
-
 ack_first : (i : ℕ) (more : List Step) → 1 ≤ count_by (is_step true i) (record { is_ack = true; op = i } ∷ more)
 ack_first i more =
-    let one : number (i == i) ≡ 1 = ap number (itself i) in
+    let one : number (i == i) ≡ 1 = ap number (eq-eqb i i refl) in
     omega (arith, one, count-cons (is_step true i) (record { is_ack = true; op = i }) more)
 
 pair_first : (i : ℕ) (more : List Step) → 1 ≤ count_by (is_step true i) (record { is_ack = false; op = i } ∷ record { is_ack = true; op = i } ∷ more)

@@ -1,7 +1,7 @@
 -- Where a run rests, and what has come of its script there. Source: this project's own.
 use Rattle.std.specs.Prelude.{◌≡◌, ℕ, ◌<◌, ◌≤◌, Bool, true, false, [], length, None}
 use Rattle.std.specs.List.{AllByRecursion}
-use Rattle.imsm_base.specs.declared.units.Sector.{Sector}
+use Rattle.units.specs.declared.disk.Sector.{Sector}
 use Rattle.array_model.specs.declared.script.OpKind.{OpKind}
 use Rattle.array_model.specs.declared.script.OpKind.TheVariants.{Write, Read, Whole}
 use Rattle.array_model.specs.Events.{has, is_ack_of}

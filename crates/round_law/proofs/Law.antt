@@ -4,7 +4,7 @@ use Rattle.std.specs.Prelude.{⊤}
 use Rattle.std.specs.List.{AllByRecursion}
 use Rattle.std.proofs.lemmas.Bool.Decides.{nat_tests}
 use Rattle.std.proofs.lemmas.List.{append-nil}
-use Rattle.imsm_base.specs.declared.units.Sector.{Sector}
+use Rattle.units.specs.declared.disk.Sector.{Sector}
 use Rattle.device_log.specs.Log.{Call}
 use Rattle.array_model.specs.declared.journal.Entry.{Entry}
 use Rattle.array_model.specs.declared.journal.Event.{Event}
@@ -25,7 +25,9 @@ use Rattle.stage_machine.proofs.Moments.{always_more, always_none, EachFront, co
 use Rattle.stage_machine.proofs.Clients.{Mine, mine_reached}
 use Rattle.stage_machine.proofs.Stands.{GoodRound, going_good, good_reached, renewed, fitted}
 use Rattle.stage_machine.proofs.Finished.{LeftIn, left_reached}
-use Rattle.round_law.proofs.Facts.{gen, KindOf, kind_turns, AllMarks, all_marks_map, marks_more, written_marks, writes_grow, writes_anchor, longer}
+use Rattle.stage_machine.proofs.Marks.{AllMarks, all_marks_map, written_marks}
+use Rattle.round_law.proofs.Facts.{gen, KindOf, kind_turns, marks_more, writes_grow, writes_anchor, longer}
+use Rattle.array_model.proofs.Journals.{fronts_of_one}
 
 -- WORDS
 
@@ -201,9 +203,6 @@ hush_front g n (e ∷ es) (x ∷ p) q h is =
 hush_all : (g n : ℕ) (es : List Event) → HushList g es → Hush g (stamped n es)
 hush_all g n es h = hush_front g n es (stamped n es) [] h (sym (append-nil (stamped n es)))
 
-plain_event : (g : ℕ) (e : Event) → ((o : Option ℕ) → ended_at o e ≡ o) → ((o : Option ℕ) (n : ℕ) → begun_at g o n e ≡ o) → HushEvent g e
-plain_event g e a b = record { ends = a; begins = b }
-
 hush_asked : (g : ℕ) (state : State) → HushList g (asked_events state)
 hush_asked g IsReadonly = tt
 hush_asked g IsReadAuto = (record { ends = λ o. refl; begins = λ o n. refl }, tt)
@@ -342,11 +341,6 @@ module _ (S : Setting) (renews : Renews S) (on : StandsOnAll S) (volume : IsFirs
 
 -- RUNS
 
-prefix_one : (x : Entry) (p q : List Entry) → x ∷ [] ≡ p ++ q → (p ≡ []) ⊎ (p ≡ x ∷ [])
-prefix_one x [] q is = inl refl
-prefix_one x (y ∷ []) q is = let head : x ≡ y = cc is in inr (ap (λ z. z ∷ []) (sym head))
-prefix_one x (y ∷ z ∷ p) q is = absurd cc
-
 module _ (S : Setting) (renews : Renews S) (on : StandsOnAll S) (volume : IsFirstVolume S) where
   pub kept_reached : (w : World) → FitsGeneration w.control.round.note → Reached S w → Kept S w.control.round w.log w.journal
   kept_reached w fits opens = record {
@@ -372,7 +366,7 @@ module _ (S : Setting) (renews : Renews S) (on : StandsOnAll S) (volume : IsFirs
       (facts_more S volume c (good_reached S renews on w before r) (left_reached S renews on w before r) w.log w.journal old x p kind hush) in
       elim (hush_turns S c (got_of a) (gen S c.round.last) old.low t) [
         | inl hush ↦ hushed (hush_front (gen S c.round.last) (happens S w a).calls (turned S c a).events p q hush parts)
-        | inr one ↦ elim (prefix_one (record { stamp = (happens S w a).calls; event = one.0 }) p q (sym (ap (stamped (happens S w a).calls) one.1) ∙ parts)) [
+        | inr one ↦ elim (fronts_of_one (record { stamp = (happens S w a).calls; event = one.0 }) p q (sym (ap (stamped (happens S w a).calls) one.1) ∙ parts)) [
           | inl none ↦ hushed (subst (Hush (gen S c.round.last)) (sym none) (hush_none (gen S c.round.last)))
           | inr whole ↦
               let new = kept_reached (happens S w a) fits (goes r a) in

@@ -1,3 +1,5 @@
 pub mod Facts
 pub mod Law
 pub mod Containers
+pub mod Endings
+pub mod Renewed

@@ -1,7 +1,7 @@
 -- Each answer comes from calls on rows, over every run.
-use Rattle.std.proofs.Common.{◌≡◌, ℕ, true, List, [], ◌∷◌, ◌++◌, length, ◌<◌, refl, ap, sym, ◌∙◌, subst, inl, inr, Option, Some, None}
+use Rattle.std.proofs.Common.{◌≡◌, ℕ, true, List, [], ◌∷◌, ◌++◌, length, ◌<◌, ◌≤◌, refl, ap, sym, ◌∙◌, subst, arith, inl, inr, Option, Some, None}
 use Rattle.std.proofs.lemmas.Option.{slice_get_within}
-use Rattle.imsm_base.specs.declared.units.Sector.{Sector}
+use Rattle.units.specs.declared.disk.Sector.{Sector}
 use Rattle.device_log.specs.Log.{Call}
 use Rattle.array_model.specs.declared.script.OpKind.{OpKind}
 use Rattle.array_model.specs.declared.script.OpKind.TheVariants.{Write as OpWrite, Read as OpRead, Whole as OpWhole}
@@ -12,29 +12,30 @@ use Rattle.array_model.specs.declared.journal.Answer.{Answer}
 use Rattle.array_model.specs.declared.journal.Answer.TheVariants.{Done, Value, Past, Failed, NoSpare}
 use Rattle.array_model.specs.Script.{Target, kind_at, write_at}
 use Rattle.array_model.specs.Events.{AtEachFrom}
+use Rattle.array_model.specs.Moments.{AllBelow}
 use Rattle.array_model.specs.AnswerLaw.{submitted_from}
 use Rattle.array_model.specs.RowCalls.{IsRowOn, IsWrittenOn, IsRead, DoneFrom, ValueFrom, AckFrom, AnswersFromRows}
-use Rattle.array_model.proofs.Journals.{at_each_more, at_each_map}
+use Rattle.array_model.proofs.Journals.{at_each_more}
 use Rattle.stage_machine.specs.Setting.{Setting}
 use Rattle.stage_machine.specs.Opens.{AsksFirst, IsFirstVolume}
 use Rattle.stage_machine.specs.States.{State, IsReadonly, IsReadAuto, IsClean, IsPending, IsActive, IsIdle, asked_events}
 use Rattle.stage_machine.specs.Jobs.{JobStep, Written, Got, Busy, row_at, value_at, sector_in, Answers}
 use Rattle.stage_machine.specs.Machine.{Control, need_now, World, Reached, opens, goes, call_of, got_of, turned, stamped, calls_after, log_after}
 use Rattle.stage_machine.proofs.Turns.{Turns, turns_of, Has, nothing, fails, anchors, settles, ends, begins, readies, actives, cleans, rests, pasts, asks_read, asks_write, puts, syncs, gets, acks}
-use Rattle.stage_machine.proofs.Clients.{Mine, mine_reached, of_job, IsJob}
+use Rattle.stage_machine.proofs.Clients.{Mine, mine_reached, of_job, IsJob, kind_first}
 use Rattle.stage_machine.proofs.Moments.{counted_reached}
 use Rattle.answer_law.proofs.JobKinds.{Fits, fits_of, fits_reached, is_read_kind}
-use Rattle.answer_law.proofs.Rows.{at_row, kind_first, row_is, write_is}
+use Rattle.answer_law.proofs.Rows.{at_row, row_is, write_is}
 use Rattle.answer_law.proofs.Values.{needs, answers_from}
-use Rattle.answer_law.proofs.Law.{job_is}
 use Rattle.row_law.proofs.Places.{member_of_row, op_row, op_place}
-use Rattle.row_law.proofs.Jobs.{IsGot, SyncedBut, StepCalls, JobCalls, Calls, calls_reached, went_more}
+use Rattle.row_law.proofs.Stays.{made_before}
+use Rattle.row_law.proofs.Jobs.{IsGot, SyncedBut, StepCalls, JobCalls, Calls, calls_reached, went_more, step_calls}
 
 -- A LONGER LOG
 
 module _ (S : Setting) (log : List Call) (x : Option Call) where
-  on_more : (since stamp d place : ℕ) (v : Sector) → IsWrittenOn log since stamp d place v → IsWrittenOn (log_after log x) since stamp d place v
-  on_more since stamp d place v h = record {
+  on_more : (since stamp d place : ℕ) (v : Sector) → stamp ≤ length log → IsWrittenOn log since stamp d place v → IsWrittenOn (log_after log x) since stamp d place v
+  on_more since stamp d place v made h = record {
     write = h.write;
     sync = h.sync;
     from = h.from;
@@ -42,16 +43,19 @@ module _ (S : Setting) (log : List Call) (x : Option Call) where
     until = h.until;
     written = went_more log x h.write d _ h.written;
     synced = went_more log x h.sync d _ h.synced;
+    stays = λ k call behind until is on.
+        let within : k < length log = omega (arith, until, made) in
+        h.stays k call behind until (made_before log x k call within is) on;
   }
 
-  done_more : (front : List Entry) (since stamp : ℕ) (t : Option Target) → DoneFrom S.start log front since stamp t → DoneFrom S.start (log_after log x) front since stamp t
-  done_more front since stamp None h = tt
-  done_more front since stamp (Some t) h = record {
+  done_more : (front : List Entry) (since stamp : ℕ) (t : Option Target) → stamp ≤ length log → DoneFrom S.start log front since stamp t → DoneFrom S.start (log_after log x) front since stamp t
+  done_more front since stamp None made h = tt
+  done_more front since stamp (Some t) made h = record {
     disk = h.disk;
     at = h.at;
     row = h.row;
-    some = on_more since stamp h.disk h.at t.value h.some;
-    each = λ d place row sound. on_more since stamp d place t.value (h.each d place row sound);
+    some = on_more since stamp h.disk h.at t.value made h.some;
+    each = λ d place row sound. on_more since stamp d place t.value made (h.each d place row sound);
   }
 
   value_more : (since stamp : ℕ) (kind : Option OpKind) → ValueFrom S.start log since stamp kind → ValueFrom S.start (log_after log x) since stamp kind
@@ -68,24 +72,27 @@ module _ (S : Setting) (log : List Call) (x : Option Call) where
   }
   value_more since stamp (Some (OpWhole v)) h = h
 
-  ack_more : (front : List Entry) (e : Entry) → AckFrom S.start S.asked.ops log front e.stamp e.event → AckFrom S.start S.asked.ops (log_after log x) front e.stamp e.event
-  ack_more front e h = at e.event h
+  ack_more : (front : List Entry) (e : Entry) → e.stamp ≤ length log → AckFrom S.start S.asked.ops log front e.stamp e.event → AckFrom S.start S.asked.ops (log_after log x) front e.stamp e.event
+  ack_more front e made h = at e.event h
     where
       at : (event : Event) → AckFrom S.start S.asked.ops log front e.stamp event → AckFrom S.start S.asked.ops (log_after log x) front e.stamp event
-      at (Ack i Done) h = done_more front (submitted_from i 0 front) e.stamp (write_at S.asked.ops i) h
+      at (Ack i Done) h = done_more front (submitted_from i 0 front) e.stamp (write_at S.asked.ops i) made h
       at (Ack i (Value v)) h = value_more (submitted_from i 0 front) e.stamp (kind_at S.asked.ops i) h
       at (Ack i Past) h = tt
       at (Ack i Failed) h = tt
       at (Ack i NoSpare) h = tt
       at _ h = tt
 
+-- the entries up to n
+at_each_below : (P Q : List Entry → Entry → Type 0) (n : ℕ) → ((front : List Entry) (e : Entry) → e.stamp ≤ n → P front e → Q front e) → (front xs : List Entry) → AllBelow n xs
+    → AtEachFrom P front xs → AtEachFrom Q front xs
+at_each_below P Q n f front [] below h = tt
+at_each_below P Q n f front (x ∷ xs) below h = (f front x below.0 h.0, at_each_below P Q n f (front ++ x ∷ []) xs below.1 h.1)
+
 -- AN ANSWER
 
 module _ (S : Setting) (asks : AsksFirst S) (volume : IsFirstVolume S) (log : List Call) (journal : List Entry) (c : Control) (n : ℕ)
     (mine : Mine S c) (fits : Fits S c) (count : n ≡ length log) (calls : Calls S log journal c.clients) where
-  step_calls : (k i : ℕ) (left : List ℕ) (step : JobStep) → Has c k left (Busy i step) → StepCalls S log i (submitted_from i 0 journal) step
-  step_calls k i left step here = subst (JobCalls S log journal) (job_is c k left (Busy i step) here) (calls k)
-
   done_from : (k i : ℕ) (left : List ℕ) → Has c k left (Busy i Written) → DoneFrom S.start log journal (submitted_from i 0 journal) n (write_at S.asked.ops i)
   done_from k i left here = subst (DoneFrom S.start log journal (submitted_from i 0 journal) n) (sym (write_is S asks volume i job.place job.placed (fits_of S c k i left Written fits here))) (record {
     disk = all.disk;
@@ -99,7 +106,7 @@ module _ (S : Setting) (asks : AsksFirst S) (volume : IsFirstVolume S) (log : Li
       job = of_job S c k i left Written mine here
 
       all : SyncedBut S log i (submitted_from i 0 journal) []
-      all = step_calls k i left Written here
+      all = step_calls S log journal c calls k i left Written here
 
       on : (d place : ℕ) → IsRowOn S.start 0 (row_at S i) d place → IsWrittenOn log (submitted_from i 0 journal) n d place (value_at S i)
       on d place row =
@@ -113,7 +120,7 @@ module _ (S : Setting) (asks : AsksFirst S) (volume : IsFirstVolume S) (log : Li
       job = of_job S c k i left (Got v) mine here
 
       got : IsGot S log i (submitted_from i 0 journal)
-      got = step_calls k i left (Got v) here
+      got = step_calls S log journal c calls k i left (Got v) here
 
       read : IsRead S.start log (submitted_from i 0 journal) n 0 (row_at S i)
       read = record {
@@ -178,5 +185,7 @@ answers_reached S asks volume w (goes {w = v} r a) =
     let x = call_of S c a in
     let counted = counted_reached S v r in
     at_each_more (λ front e. AckFrom S.start S.asked.ops (log_after v.log x) front e.stamp e.event) v.journal (stamped (calls_after v.calls x) (turned S c a).events)
-    (at_each_map (λ front e. AckFrom S.start S.asked.ops v.log front e.stamp e.event) (λ front e. AckFrom S.start S.asked.ops (log_after v.log x) front e.stamp e.event) (ack_more S v.log x) [] v.journal (answers_reached S asks volume v r))
-    (acks_turns S asks volume v.log v.journal c v.calls (mine_reached S v r) (fits_reached S v r) counted.calls (calls_reached S v r) (got_of a) (turns_of S c a))
+    (at_each_below (λ front e. AckFrom S.start S.asked.ops v.log front e.stamp e.event) (λ front e. AckFrom S.start S.asked.ops (log_after v.log x) front e.stamp e.event) v.calls
+    (λ front e below. ack_more S v.log x front e (subst (λ z. e.stamp ≤ z) counted.calls below))
+    [] v.journal counted.below (answers_reached S asks volume v r))
+    (acks_turns S asks volume v.log v.journal c v.calls (mine_reached S v r) (fits_reached S v r) counted.calls (calls_reached S volume v r) (got_of a) (turns_of S c a))

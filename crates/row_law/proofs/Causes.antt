@@ -4,93 +4,41 @@ use Rattle.std.specs.Prelude.{⊤}
 use Rattle.std.proofs.lemmas.Bool.Decides.{nat_tests}
 use Rattle.std.proofs.lemmas.List.{append-nil}
 use Rattle.std.proofs.lemmas.List.Elements.{filter-append}
-use Rattle.imsm_base.specs.declared.units.Sector.{Sector}
+use Rattle.units.specs.declared.disk.Sector.{Sector}
 use Rattle.device_log.specs.Log.{Call, What}
 use Rattle.array_model.specs.declared.script.OpKind.{OpKind}
 use Rattle.array_model.specs.declared.script.OpKind.TheVariants.{Write as OpWrite, Read as OpRead, Whole as OpWhole}
 use Rattle.array_model.specs.declared.journal.Entry.{Entry}
 use Rattle.array_model.specs.declared.journal.Event.{Event}
-use Rattle.array_model.specs.declared.journal.Event.TheVariants.{Begin, End}
 use Rattle.array_model.specs.Script.{kind_at}
 use Rattle.array_model.specs.Blocks.{Laid}
-use Rattle.array_model.specs.Events.{up_to}
+use Rattle.array_model.specs.Events.{is_live, up_to}
 use Rattle.array_model.specs.Moments.{AllBelow, EachCallFrom}
 use Rattle.array_model.specs.Renewal.{FitsGeneration}
-use Rattle.array_model.specs.RowCalls.{IsRowOn, open_at, open_from, open_round, IsInRound, IsUnderWay, IsWriting, IsReading, HasCause, CallsHaveCauses}
+use Rattle.array_model.specs.RowCalls.{IsRowOn, IsInRound, IsUnderWay, IsWriting, IsReading, HasCause, CallsHaveCauses}
+use Rattle.array_model.specs.Causes.{GoesOn, course_of}
 use Rattle.stage_machine.specs.Setting.{Setting, Renews, has}
 use Rattle.stage_machine.specs.Opens.{AsksFirst, StandsOnAll, IsFirstVolume}
-use Rattle.stage_machine.specs.Rounds.{Step, AtAnchor, AtSync, Phase, Rest, Going}
-use Rattle.stage_machine.specs.States.{State, IsReadonly, IsReadAuto, IsClean, IsPending, IsActive, IsIdle, asked_events, next_dirty}
-use Rattle.stage_machine.specs.Jobs.{JobStep, Busy, row_at, value_at, is_write, sector_in, Reads, Writes, Syncs}
-use Rattle.stage_machine.specs.Machine.{Control, World, Reached, opens, goes, call_of, got_of, turned, stamped, calls_after, log_after}
-use Rattle.stage_machine.proofs.Turns.{Turns, turns_of, Has, Asked, anchor, settle, put, sync, get, nothing, fails, anchors, settles, ends, begins, readies, actives, cleans, rests, pasts, asks_read, asks_write, puts, syncs, gets, acks}
+use Rattle.stage_machine.specs.Rounds.{Step, AtAnchor, AtSync, Going}
+use Rattle.stage_machine.specs.Jobs.{JobStep, Busy, Need, NoNeed, row_at, value_at, is_write, sector_in, Reads, Writes, Syncs}
+use Rattle.stage_machine.specs.Machine.{Control, need_now, World, Reached, opens, goes, call_of, got_of, turned, stamped, calls_after, log_after}
+use Rattle.stage_machine.proofs.Turns.{Turns, turns_of, Has, AsksFor, anchor, settle, put, sync, get, nothing, fails, anchors, settles, ends, begins, readies, actives, cleans, rests, pasts, asks_read, asks_write, puts, syncs, gets, acks}
 use Rattle.stage_machine.proofs.Moments.{counted_reached}
-use Rattle.stage_machine.proofs.Clients.{Mine, mine_reached, of_job, IsJob, NeedIn, need_in}
-use Rattle.stage_machine.proofs.Stands.{GoodRound, good_reached, renewed, fitted}
+use Rattle.stage_machine.proofs.Clients.{Mine, mine_reached, of_job, IsJob, NeedIn, need_in, kind_first}
+use Rattle.stage_machine.proofs.Stands.{GoodRound, going_good, good_reached, fitted}
 use Rattle.stage_machine.proofs.Finished.{LeftIn, left_reached}
 use Rattle.answer_law.proofs.JobKinds.{Fits, fits_reached, is_read_kind, need_is}
-use Rattle.answer_law.proofs.Rows.{at_row, kind_first, row_is, write_is}
+use Rattle.answer_law.proofs.Rows.{at_row, row_is, write_is}
+use Rattle.gate_law.proofs.Live.{live, live_reached, WritesLive, writes_reached, goes_active}
+use Rattle.cause_law.proofs.Courses.{phase_course, course_by, course_reached, HasNote, has_note_reached}
 use Rattle.row_law.proofs.Places.{op_row}
 use Rattle.row_law.proofs.UnderWay.{under_way}
-
--- THE ROUND THAT IS OPEN
-
-open-append : (found : Option ℕ) (xs ys : List Entry) → open_from found (xs ++ ys) ≡ open_from (open_from found xs) ys
-open-append found [] ys = refl
-open-append found (x ∷ xs) ys = open-append (open_at found x.event) xs ys
-
--- the journal tells of the round that is going on
-abbrev OpenIn : Setting → List Entry → Phase → Type 0
-OpenIn S journal Rest = open_round journal ≡ None
-OpenIn S journal (Going m step left) = open_round journal ≡ Some (S.start.words.generation m.anchor)
-
-module _ (S : Setting) (renews : Renews S) (on : StandsOnAll S) (c : Control) (good : GoodRound S c.round) (journal : List Entry) (n : ℕ) where
-  -- entries that begin and end no round
-  keeps : (phase : Phase) (new : List Entry) → ((found : Option ℕ) → open_from found new ≡ found) → OpenIn S journal phase → OpenIn S (journal ++ new) phase
-  keeps Rest new hush h = open-append None journal new ∙ hush (open_round journal) ∙ h
-  keeps (Going m step left) new hush h = open-append None journal new ∙ hush (open_round journal) ∙ h
-
-  asked_hush : (state : State) (found : Option ℕ) → open_from found (stamped n (asked_events state)) ≡ found
-  asked_hush IsReadonly found = refl
-  asked_hush IsReadAuto found = refl
-  asked_hush IsClean found = refl
-  asked_hush IsPending found = refl
-  asked_hush IsActive found = refl
-  asked_hush IsIdle found = refl
-
-  open_turns : (got : Sector) {call : Option Call} {es : List Event} {next : Control} → Turns S c got call es next → FitsGeneration next.round.note → OpenIn S journal c.round.phase
-      → OpenIn S (journal ++ stamped n es) next.round.phase
-  open_turns got nothing fits h = keeps c.round.phase [] (λ found. refl) h
-  open_turns got (fails d what asked) fits h = keeps c.round.phase [] (λ found. refl) h
-  open_turns got (anchors m d ds is) fits h = keeps (Going m AtSync (d ∷ ds)) [] (λ found. refl) (subst (OpenIn S journal) is h)
-  open_turns got (settles m d e ds is) fits h = keeps (Going m AtAnchor (e ∷ ds)) [] (λ found. refl) (subst (OpenIn S journal) is h)
-  open_turns got (ends m d is) fits h = open-append None journal (stamped n (End (S.start.words.generation m.anchor) ∷ []))
-  open_turns got (begins d ds is some why) fits h =
-      let it = renewed S renews on c.round d ds (next_dirty c.state) some fits good in
-      open-append None journal (stamped n (Begin (c.round.note + 1) ∷ [])) ∙ ap (λ g. Some g) (sym it.generation)
-  open_turns got (readies is s t) fits h = keeps c.round.phase _ (λ found. refl) h
-  open_turns got (actives is s t r) fits h = keeps c.round.phase _ (λ found. refl) h
-  open_turns got (cleans is s t) fits h = keeps c.round.phase _ (λ found. refl) h
-  open_turns got (rests t calm) fits h = keeps c.round.phase _ (λ found. refl) h
-  open_turns got (pasts k i rest here none) fits h = keeps c.round.phase _ (λ found. refl) h
-  open_turns got (asks_read k i rest place here is w ready) fits h = keeps c.round.phase _ (λ found. refl) h
-  open_turns got (asks_write k i rest place here is w ready) fits h = keeps c.round.phase _ (asked_hush c.state) h
-  open_turns got (puts k i left step d ds here need) fits h = keeps c.round.phase [] (λ found. refl) h
-  open_turns got (syncs k i left step d ds here need) fits h = keeps c.round.phase [] (λ found. refl) h
-  open_turns got (gets k i left step d here need) fits h = keeps c.round.phase [] (λ found. refl) h
-  open_turns got (acks k i left step answer here need) fits h = keeps c.round.phase _ (λ found. refl) h
-
-open_reached : (S : Setting) → Renews S → StandsOnAll S → (w : World) → FitsGeneration w.control.round.note → Reached S w → OpenIn S w.journal w.control.round.phase
-open_reached S renews on w fits opens = refl
-open_reached S renews on w fits (goes {w = v} r a) =
-    let before = fitted S v a fits in
-    open_turns S renews on v.control (good_reached S renews on v before r) v.journal (calls_after v.calls (call_of S v.control a)) (got_of a) (turns_of S v.control a) fits (open_reached S renews on v before r)
 
 -- WHAT IS ASKED HAS A CAUSE
 
 abbrev AskedOf : Setting → Control → Option Call → Type 0
 AskedOf S c None = ⊤
-AskedOf S c (Some x) = Asked S c x.disk x.what
+AskedOf S c (Some x) = AsksFor S c x.disk x.what
 
 asked_turns : (S : Setting) (c : Control) (got : Sector) {call : Option Call} {es : List Event} {next : Control} → Turns S c got call es next → AskedOf S c call
 asked_turns S c got nothing = tt
@@ -112,23 +60,31 @@ asked_turns S c got (gets k i left step d here need) = get k i left step d here 
 asked_turns S c got (acks k i left step answer here need) = tt
 
 module _ (S : Setting) (asks : AsksFirst S) (on : StandsOnAll S) (volume : IsFirstVolume S) (c : Control) (journal : List Entry) (mine : Mine S c) (fits : Fits S c)
-    (targets : LeftIn S c.round.phase) (is_open : OpenIn S journal c.round.phase)
-    (busy : (k i : ℕ) (left : List ℕ) (step : JobStep) → Has c k left (Busy i step) → IsUnderWay journal i) where
+    (good : GoodRound S c.round) (targets : LeftIn S c.round.phase) (course : course_of journal ≡ course_by c.round) (note : HasNote S c.round.note c.round.phase)
+    (busy : (k i : ℕ) (left : List ℕ) (step : JobStep) → Has c k left (Busy i step) → IsUnderWay journal i)
+    (word : is_live 0 journal ≡ live c.state) (writable : WritesLive S c.state c.clients) where
   abbrev in_round : (m : Laid) (step : Step) (d : ℕ) (ds : List ℕ) → c.round.phase ≡ Going m step (d ∷ ds) → IsInRound S.start journal d
   in_round m step d ds is = record {
     generation = S.start.words.generation m.anchor;
-    is_open = subst (OpenIn S journal) is is_open;
+    goes_on = course ∙ ap (phase_course c.round.started c.round.note) is ∙ ap (λ g. GoesOn g) (sym (subst (HasNote S c.round.note) is note));
     target = on.expected d ∙ (subst (LeftIn S) is targets).0;
   }
 
-  abbrev writing : (k i : ℕ) (left : List ℕ) (step : JobStep) (d : ℕ) → Has c k left (Busy i step) → has d S.members ≡ true → is_write S i ≡ true → IsWriting S.start S.asked.ops journal d (at_row S (row_at S i))
-  writing k i left step d here member w =
+  -- a write's job that needs something finds the volume active
+  live_at_write : (k i : ℕ) (left : List ℕ) (step : JobStep) (need : Need) → Has c k left (Busy i step) → need_now S c k i step ≡ need → (NoNeed ≡ need → ⊥) → is_write S i ≡ true
+      → is_live 0 journal ≡ true
+  live_at_write k i left step need here is some w = word ∙ ap live (goes_active S c k i left step need writable here is some w)
+
+  abbrev writing : (k i : ℕ) (left : List ℕ) (step : JobStep) (d : ℕ) → Has c k left (Busy i step) → has d S.members ≡ true → is_write S i ≡ true → is_live 0 journal ≡ true
+      → IsWriting S.start S.asked.ops journal d (at_row S (row_at S i))
+  writing k i left step d here member w alive =
       let job : IsJob S k i step = of_job S c k i left step mine here in
       record {
         op = i;
         under_way = busy k i left step here;
         target = record { volume = 0; sector = row_at S i; value = value_at S i };
         asks = write_is S asks volume i job.place job.placed w;
+        live = alive;
         row = op_row S volume i d job.place job.placed member;
       }
 
@@ -151,15 +107,17 @@ module _ (S : Setting) (asks : AsksFirst S) (on : StandsOnAll S) (volume : IsFir
       }
   reading k i left step d here member (Some (OpWhole v)) is r = absurd cc
 
-  cause_asked : (d : ℕ) (what : What) → Asked S c d what → HasCause S.start S.asked.ops journal d what
-  cause_asked _ _ (anchor m d ds stored is) = inl (record { round = in_round m AtAnchor d ds is; anchor = m.anchor; at_anchor = refl; brings = refl; of_round = refl })
+  cause_asked : (d : ℕ) (what : What) → AsksFor S c d what → HasCause S.start S.asked.ops journal d what
+  cause_asked _ _ (anchor m d ds stored is) = inl (record { round = in_round m AtAnchor d ds is; anchor = m.anchor; at_anchor = refl; brings = refl; of_round = refl; alone = (going_good S c.round m AtAnchor (d ∷ ds) good is).alone.extra })
   cause_asked _ _ (settle m d ds is) = inl (in_round m AtSync d ds is)
   cause_asked _ _ (put k i left step d ds stored here need) =
       let member = (subst (NeedIn S.members) need (need_in S c k i step (of_job S c k i left step mine here).inside)).0 in
-      inr (writing k i left step d here member (need_is S c k i left step (Writes d ds) fits here need), refl)
+      let w = need_is S c k i left step (Writes d ds) fits here need in
+      inr (writing k i left step d here member w (live_at_write k i left step _ here need (λ none. absurd cc) w), refl)
   cause_asked _ _ (sync k i left step d ds here need) =
       let member = (subst (NeedIn S.members) need (need_in S c k i step (of_job S c k i left step mine here).inside)).0 in
-      inr (at_row S (row_at S i), writing k i left step d here member (need_is S c k i left step (Syncs d ds) fits here need))
+      let w = need_is S c k i left step (Syncs d ds) fits here need in
+      inr (at_row S (row_at S i), writing k i left step d here member w (live_at_write k i left step _ here need (λ none. absurd cc) w))
   cause_asked _ _ (get k i left step d here need) =
       let member : has d S.members ≡ true = subst (NeedIn S.members) need (need_in S c k i step (of_job S c k i left step mine here).inside) in
       reading k i left step d here member (kind_at S.asked.ops i) refl (need_is S c k i left step (Reads d) fits here need)
@@ -212,6 +170,7 @@ causes_reached S asks renews on volume w fits (goes {w = v} r a) =
     let counted = counted_reached S v r in
     causes_more S v.log v.journal v.calls counted.calls counted.below (turned S c a).events (call_of S c a)
     (λ y is.
-    cause_asked S asks on volume c v.journal (mine_reached S v r) (fits_reached S v r) (left_reached S renews on v before r) (open_reached S renews on v before r) (under_way S asks v r)
+    cause_asked S asks on volume c v.journal (mine_reached S v r) (fits_reached S v r) (good_reached S renews on v before r) (left_reached S renews on v before r) (course_reached S v r) (has_note_reached S renews on v before r)
+    (under_way S asks v r) (live_reached S v r) (writes_reached S v r)
     y.disk y.what (subst (AskedOf S c) is (asked_turns S c (got_of a) (turns_of S c a))))
     (causes_reached S asks renews on volume v before r)

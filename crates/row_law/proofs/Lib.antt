@@ -1,4 +1,5 @@
 pub mod Places
+pub mod Stays
 pub mod Jobs
 pub mod Answers
 pub mod UnderWay

@@ -1,18 +1,14 @@
 use Rattle.std.proofs.Common.{◌≡◌, ℕ, zero, suc, List, [], ◌∷◌, refl, arith}
 use Rattle.std.specs.List.{AllByRecursion}
-use Rattle.stage_machine.specs.Setting.{Setting}
 use Rattle.stage_machine.specs.Jobs.{Client, no_client, client_at}
-use Rattle.stage_machine.specs.Machine.{Control, World, Action, Reached, opens, goes, happens, run, begins_at}
+use Rattle.stage_machine.specs.Machine.{Control, opens, run, begins_at}
 use Rattle.stage_machine.specs.Worked.{small_setting, the_turns}
 use Rattle.rest_law.proofs.Told.{nothing_left}
 use Rattle.rest_law.proofs.worked.the_worked_run_rests.Goals as goal
+use Rattle.stage_machine.proofs.Moments.{reached_by}
 
 abbrev end : Control
 end = (run small_setting (begins_at small_setting) the_turns).control
-
-reached_by : (S : Setting) (w : World) → Reached S w → (turns : List Action) → Reached S (run S w turns)
-reached_by S w r [] = r
-reached_by S w r (a ∷ more) = reached_by S (happens S w a) (goes r a) more
 
 each_done : (clients : List Client) → AllByRecursion (λ x. x ≡ no_client) clients → (k : ℕ) → client_at clients k ≡ no_client
 each_done [] done k = refl
