@@ -5,10 +5,10 @@ use Rattle.std.proofs.lemmas.Option.{slice_get-get_or}
 use Rattle.std.specs.Prelude.{Option, Some, Result, Ok, Err, IsOk, OnOk, slice_get}
 use Rattle.std.specs.Option.{option_map_or}
 use Rattle.byteorder.specs.Endian.{little_bytes}
-use Rattle.imsm_base.specs.declared.units.Sector.{Sector}
+use Rattle.units.specs.declared.disk.Sector.{Sector}
 use Rattle.imsm_base.specs.Fields.{number_at}
 use Rattle.imsm_base.specs.Volumes.{is_dirty}
-use Rattle.imsm_base.specs.Layout.{Block, Volume, size_of, generation_of, volume_count_of}
+use Rattle.imsm_base.specs.Layout.{Block, Volume, generation_of, volume_count_of}
 use Rattle.imsm_base.specs.Parts.{block_in}
 use Rattle.imsm_base.specs.Whole.{block_sum}
 use Rattle.imsm_base.specs.Edits.{first_sector, with_generation, with_dirty, sized, sealed, block_with_generation, block_with_size, block_sealed}
@@ -19,28 +19,18 @@ use Rattle.imsm_buffer.specs.Buffer.{Buffer, IsKept}
 use Rattle.imsm_codec.specs.Mpb.{volume_at, blank_volume}
 use Rattle.imsm_buffer.specs.declared.fault.NoRoom.{NoRoom}
 use Rattle.imsm_base.proofs.Apart.{length-volumes}
-use Rattle.imsm_buffer.proofs.Kept.{volumes-counted, generation-kept, generation-block, dirty-kept, dirty-block, sealed-kept, sealed-block, sealed-parts}
-use Rattle.array_model.specs.Meaning.{bytes_of_laid, of_volume}
-use Rattle.block_words.specs.Reading.{block_words}
-use Rattle.block_words.specs.Renewed.{renewed, renewed_bytes}
+use Rattle.imsm_buffer.proofs.Kept.{volumes-counted, generation-kept, generation-block, dirty-kept, dirty-block, sealed-kept, sealed-block, sealed-parts, long}
+use Rattle.block_meaning.specs.Meaning.{bytes_of_laid, of_volume}
+use Rattle.block_meaning.specs.Reading.{block_words}
+use Rattle.block_meaning.specs.Renewed.{renewed, renewed_bytes}
 use Rattle.control_state.specs.Book.{IsBook, IsBlockOf, laid_at}
-
-long : (bytes : List ℕ) → IsLaid bytes → 216 ≤ length bytes
-long bytes laid = let room = laid.room in omega arith
+use Rattle.block_meaning.proofs.Renewal.{generation-at, size-at}
 
 -- IN ITS FIRST SECTOR
 
 front : (k at : ℕ) (bytes : List ℕ) → at + k ≤ 216 → 216 ≤ length bytes → number_at k at (first_sector bytes) ≡ number_at k at bytes
 front k at bytes within room =
     number_at-take k at 512 (bytes ++ replicate 512 0) (omega (arith, within)) ∙ number_at-front k at bytes (replicate 512 0) (omega (arith, within, room))
-
-size-counted : (bytes : List ℕ) → size_of (block_in bytes) ≡ number_at 4 36 bytes
-unfolding block_in
-size-counted bytes = refl
-
-generation-counted : (bytes : List ℕ) → generation_of (block_in bytes) ≡ number_at 4 44 bytes
-unfolding block_in
-generation-counted bytes = refl
 
 taken : (n : ℕ) (xs : List ℕ) → length (take n xs) ≤ n
 taken n xs = let len = length-take n xs in omega (arith, len)
@@ -54,12 +44,12 @@ generation_there s bytes book there =
     sym (number_at-take 4 44 n s.0 (omega (arith, fits, long, same)))
     ∙ ap (λ (xs : List ℕ). number_at 4 44 (take n xs)) (sym (append-nil s.0))
     ∙ ap (number_at 4 44) there
-    ∙ sym (generation-counted bytes)
+    ∙ generation-at bytes
 
 -- a block of one sector is what its first sector says
 bytes_back : (bytes : List ℕ) → IsBook bytes → bytes_of_laid (laid_at (record { 0 = first_sector bytes })) ≡ bytes
 bytes_back bytes book =
-    let n : number_at 4 36 (first_sector bytes) ≡ length bytes = front 4 36 bytes (omega arith) (long bytes book.laid) ∙ sym (size-counted bytes) ∙ book.size in
+    let n : number_at 4 36 (first_sector bytes) ≡ length bytes = front 4 36 bytes (omega arith) (long bytes book.laid) ∙ size-at bytes ∙ book.size in
     ap (λ (k : ℕ). take k (first_sector bytes ++ [])) n
     ∙ ap (take (length bytes)) (append-nil (first_sector bytes))
     ∙ take-take (length bytes) 512 (bytes ++ replicate 512 0) book.short

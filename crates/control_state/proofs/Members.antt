@@ -1,7 +1,7 @@
 -- The members that are left from a place on.
 use Rattle.std.proofs.Common.{◌≡◌, ℕ, zero, suc, ◌+◌, ◌<◌, List, [], ◌∷◌, length, drop, Some, None, refl, add-one, arith}
 use Rattle.std.specs.Prelude.{slice_get}
-use Rattle.imsm_base.specs.declared.units.DiskNo.{DiskNo}
+use Rattle.units.specs.declared.disk.DiskNo.{DiskNo}
 use Rattle.stage_machine.specs.Setting.{Setting}
 use Rattle.stage_machine.specs.Jobs as jobs
 use Rattle.control_state.specs.Seen.{numbers}

@@ -1,6 +1,6 @@
 -- A round from one step to the next, by the targets that are left.
 use Rattle.std.proofs.Common.{◌≡◌, ℕ, ◌+◌, ◌<◌, List, [], ◌∷◌, length, drop, refl}
-use Rattle.imsm_base.specs.declared.units.DiskNo.{DiskNo}
+use Rattle.units.specs.declared.disk.DiskNo.{DiskNo}
 use Rattle.array_model.specs.declared.journal.Event.TheVariants.{Begin}
 use Rattle.array_model.specs.Blocks.{Laid}
 use Rattle.stage_machine.specs.Setting.{Setting}

@@ -1,7 +1,7 @@
 -- Where a run begins. Source: this project's own.
 use Rattle.std.specs.Prelude.{false, None}
 use Rattle.array_model.specs.Blocks.{Laid}
-use Rattle.block_words.specs.Reading.{block_words}
+use Rattle.block_meaning.specs.Reading.{block_words}
 use Rattle.stage_machine.specs.Rounds as rounds
 use Rattle.stage_machine.specs.States as states
 use Rattle.stage_machine.specs.Machine.{Control, clients_of}

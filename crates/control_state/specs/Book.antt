@@ -1,13 +1,13 @@
 -- The blocks that rounds are edited from, and how they lie on a disk. Source: this project's own.
 use Rattle.std.specs.Prelude.{◌≡◌, ℕ, ◌<◌, ◌≤◌, List, [], length}
-use Rattle.imsm_base.specs.declared.bounds.TheConstants.{SECTOR_BYTES}
-use Rattle.imsm_base.specs.declared.units.Sector.{Sector}
+use Rattle.units.specs.declared.bounds.TheConstants.{SECTOR_BYTES}
+use Rattle.units.specs.declared.disk.Sector.{Sector}
 use Rattle.imsm_base.specs.Fields.{number_at}
 use Rattle.imsm_base.specs.Layout.{size_of}
 use Rattle.imsm_base.specs.Parts.{block_in}
 use Rattle.imsm_codec.specs.Laid.{IsLaid}
 use Rattle.array_model.specs.Blocks.{Laid}
-use Rattle.array_model.specs.Meaning.{bytes_of_laid}
+use Rattle.block_meaning.specs.Meaning.{bytes_of_laid}
 
 -- the bytes are a block of one sector with a volume, of the size that it says
 pub record IsBook (bytes : List ℕ) : Type 0 where

@@ -1,6 +1,6 @@
 -- The whole control state as the machine has it, seen in the code's types. Source: this project's own.
 use Rattle.std.specs.Prelude.{ℕ, List, [], ◌∷◌, Option, Some, None}
-use Rattle.imsm_base.specs.declared.units.DiskNo.{DiskNo}
+use Rattle.units.specs.declared.disk.DiskNo.{DiskNo}
 use Rattle.array_model.specs.declared.journal.Event.{Event}
 use Rattle.stage_machine.specs.Machine as machine
 use Rattle.control_state.specs.declared.plan.Plan.{Plan}

@@ -1,16 +1,16 @@
 -- The control state as the machine has it, seen in the code's types. Source: this project's own.
 use Rattle.std.specs.Prelude.{ℕ, ◌-◌, ◌==◌, ◌&&◌, not, Bool, true, false, List, [], ◌∷◌, length, map, drop, filter, Option, Some, None}
 use Rattle.std.specs.List.{range_with_len}
-use Rattle.imsm_base.specs.declared.units.Sector.{Sector}
-use Rattle.imsm_base.specs.declared.units.DiskNo.{DiskNo}
-use Rattle.imsm_base.specs.declared.units.Level.TheVariants.{One}
+use Rattle.units.specs.declared.disk.Sector.{Sector}
+use Rattle.units.specs.declared.disk.DiskNo.{DiskNo}
+use Rattle.units.specs.declared.volume.Level.TheVariants.{One}
 use Rattle.array_model.specs.declared.script.Op.{Op}
 use Rattle.array_model.specs.declared.journal.Event.{Event}
 use Rattle.array_model.specs.declared.journal.Event.TheVariants.{Pending as Pended}
 use Rattle.array_model.specs.Script.{is_of_client}
 use Rattle.array_model.specs.Placement.{Shape}
-use Rattle.block_words.specs.Reading.{block_words}
-use Rattle.block_words.specs.Renewed.{renewed}
+use Rattle.block_meaning.specs.Reading.{block_words}
+use Rattle.block_meaning.specs.Renewed.{renewed}
 use Rattle.stage_machine.specs.Setting.{Setting}
 use Rattle.stage_machine.specs.States as machine
 use Rattle.stage_machine.specs.Jobs as jobs
@@ -37,8 +37,8 @@ shape_of p = record { level = Some One; members = 2; size = p.size; strip = 0; p
 abbrev pub no_sector : Sector
 no_sector = record { 0 = [] }
 
--- What the turns need of what the machine takes as given: the words of a block's bytes, of which rows ask how the volume
--- lies alone; the edit of a round; the operations; and the disks.
+-- What the turns need of what the machine takes as given: the words of a block's bytes, of which rows ask how the
+-- volume lies alone; the edit of a round; the operations; and the disks.
 abbrev pub plan_setting : Plan → Setting
 plan_setting p = record {
   start = record {

@@ -1,11 +1,11 @@
 //! The blocks that rounds are edited from.
 ghost use Rattle.std.specs.Prelude.{◌≡◌};
-ghost use Rattle.block_words.specs.Reading.{block_words};
-ghost use Rattle.block_words.specs.Renewed.{renewed};
+ghost use Rattle.block_meaning.specs.Reading.{block_words};
+ghost use Rattle.block_meaning.specs.Renewed.{renewed};
 ghost use Rattle.control_state.specs.Book.{IsBook, IsBlockOf, laid_at};
 
-use imsm_base::{Sector, VolNo};
 use imsm_buffer::MpbBuf;
+use units::{Sector, VolNo};
 
 /// A whole block of one sector with a volume, in room for one sector, and the sector as it lies on a disk: one that was
 /// read may hold other bytes behind the block.

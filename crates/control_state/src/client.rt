@@ -17,7 +17,8 @@ pub struct Client {
 
 /// The first operation of a client from a place on.
 pub fn next_op(ops: &[Op], client: u8, from: u64) -> Option<u64>
-    ensures some { IfSome result (λ i. (i < length ops.now) × (left_from ops.now client from ≡ i ∷ left_from ops.now client (i + 1))) }
+    ensures some { IfSome result (λ i. (i < length ops.now)
+        × (left_from ops.now client from ≡ i ∷ left_from ops.now client (i + 1))) }
     ensures none { IfNone result (left_from ops.now client from ≡ []) }
 {
     for i in from as usize..ops.len() {

@@ -16,7 +16,7 @@ use crate::plan::Plan;
 use crate::round::{Phase, Round};
 use crate::state::{Move, State, VOLUME, decide};
 use array_model::{Answer, Event};
-use imsm_base::DiskNo;
+use units::DiskNo;
 
 /// How many clients there are.
 pub const CLIENTS: usize = 16;
@@ -42,7 +42,8 @@ impl Control {
     /// What the monitor does where it makes no call.
     fn moved(&mut self, plan: &Plan, what: Move) -> Events
         requires { self.old.round.note + 1 < 2 ^ 32 }
-        ensures { out_of plan.now self.new result ≡ machine.moved (plan_setting plan.now) (control_of plan.now self.old) (move_of what) }
+        ensures { out_of plan.now self.new result
+            ≡ machine.moved (plan_setting plan.now) (control_of plan.now self.old) (move_of what) }
     {
         match what {
             Move::Nothing => Events::Zero,
@@ -61,7 +62,9 @@ impl Control {
     pub fn monitor_rest(&mut self, plan: &Plan) -> Events
         requires room { self.old.round.note + 1 < 2 ^ 32 }
         requires rest { next_ask (round_of plan.now self.old.round).phase ≡ None }
-        ensures { (x : Ended) → out_of plan.now self.new result ≡ machine.monitor_at (plan_setting plan.now) (control_of plan.now self.old) x (round_of plan.now self.old.round).phase }
+        ensures { (x : Ended) → out_of plan.now self.new result
+            ≡ machine.monitor_at (plan_setting plan.now) (control_of plan.now self.old) x
+            (round_of plan.now self.old.round).phase }
     {
         match self.round.phase {
             Phase::Going(_, _) => Events::Zero,
@@ -74,7 +77,10 @@ impl Control {
 
     /// The round's call went through.
     pub fn round_went(&mut self, plan: &Plan) -> Events
-        ensures { out_of plan.now self.new result ≡ machine.put_round (control_of plan.now self.old) (gone (plan_setting plan.now) (round_of plan.now self.old.round) (round_of plan.now self.old.round).phase) }
+        ensures { out_of plan.now self.new result
+            ≡ machine.put_round (control_of plan.now self.old)
+            (gone (plan_setting plan.now) (round_of plan.now self.old.round)
+            (round_of plan.now self.old.round).phase) }
     {
         match self.round.went(plan) {
             None => Events::Zero,
@@ -92,7 +98,9 @@ impl Control {
     /// A client takes another's place.
     pub(crate) fn put(&mut self, k: u8, client: Client)
         requires { k < 16 }
-        ensures { (p : PlanSeen) → control_of p self.new ≡ record (control_of p self.old) { clients = slice_set (control_of p self.old).clients k (client_of p client) } }
+        ensures { (p : PlanSeen) → control_of p self.new ≡ record (control_of p self.old) {
+          clients = slice_set (control_of p self.old).clients k (client_of p client);
+        } }
     {
         self.clients[k as usize] = client;
     }
@@ -100,7 +108,8 @@ impl Control {
     /// The job of a client.
     pub fn work(&self, k: u8) -> Option<Work>
         requires { k < 16 }
-        ensures { (p : PlanSeen) → job_of (numbers p.members.items) result ≡ (client_at (control_of p self.now).clients k).job }
+        ensures { (p : PlanSeen) → job_of (numbers p.members.items) result
+            ≡ (client_at (control_of p self.now).clients k).job }
     {
         self.clients[k as usize].work
     }
@@ -108,7 +117,9 @@ impl Control {
     /// A client's job stands elsewhere, or is over.
     pub fn settle(&mut self, k: u8, work: Option<Work>)
         requires { k < 16 }
-        ensures { (p : PlanSeen) → control_of p self.new ≡ machine.put_client (control_of p self.old) k (client_at (control_of p self.old).clients k).left (job_of (numbers p.members.items) work) }
+        ensures { (p : PlanSeen) → control_of p self.new
+            ≡ machine.put_client (control_of p self.old) k (client_at (control_of p self.old).clients k).left
+            (job_of (numbers p.members.items) work) }
     {
         let client = self.clients[k as usize];
         self.put(k, Client { work, ..client });
@@ -116,7 +127,9 @@ impl Control {
 
     /// What a client's job needs now.
     pub fn need(&self, plan: &Plan, k: u8, work: Work) -> Need
-        ensures { need_of (numbers plan.now.members.items) result ≡ machine.need_now (plan_setting plan.now) (control_of plan.now self.now) k work.op (step_of (numbers plan.now.members.items) work.step) }
+        ensures { need_of (numbers plan.now.members.items) result
+            ≡ machine.need_now (plan_setting plan.now) (control_of plan.now self.now) k work.op
+            (step_of (numbers plan.now.members.items) work.step) }
     {
         if (plan.is_write(work.op) && self.state == State::Pending)
             || is_locked(plan, &self.clients, plan.row(work.op), k)
@@ -130,7 +143,11 @@ impl Control {
     /// A job is answered.
     pub fn answer(&mut self, k: u8, op: u64, answer: Answer) -> Events
         requires { k < 16 }
-        ensures { (p : PlanSeen) → out_of p self.new result ≡ record { next = machine.put_client (control_of p self.old) k (client_at (control_of p self.old).clients k).left jobs.NoJob; events = Ack op answer ∷ [] } }
+        ensures { (p : PlanSeen) → out_of p self.new result ≡ record {
+          next = machine.put_client (control_of p self.old) k (client_at (control_of p self.old).clients k).left
+              jobs.NoJob;
+          events = Ack op answer ∷ [];
+        } }
     {
         self.settle(k, None);
         Events::One(Event::Ack(op, answer))
@@ -138,7 +155,8 @@ impl Control {
 
     /// The volume rests where no write is without an answer.
     pub fn quiet(&mut self, plan: &Plan) -> Events
-        ensures { out_of plan.now self.new result ≡ machine.quieted (plan_setting plan.now) (control_of plan.now self.old) (state_of self.old.state) }
+        ensures { out_of plan.now self.new result
+            ≡ machine.quieted (plan_setting plan.now) (control_of plan.now self.old) (state_of self.old.state) }
     {
         if self.state != State::Active || has_write(plan, &self.clients) {
             return Events::Zero;

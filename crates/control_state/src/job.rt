@@ -6,10 +6,10 @@ ghost use Rattle.control_state.specs.Seen.{numbers, plan_setting, job_of, step_o
 
 use crate::plan::Plan;
 use array_model::{Answer, OpKind};
-use imsm_base::{DiskNo, Sector};
+use units::{DiskNo, Sector};
 
-/// Where a job stands: no call was made; the members from a place on are left to write, or to sync; all is done; a value
-/// was read.
+/// Where a job stands: no call was made; the members from a place on are left to write, or to sync; all is done; a
+/// value was read.
 #[derive(Clone, Copy, Debug, PartialEq, Eq)]
 pub enum JobStep {
     Waiting,
@@ -74,7 +74,8 @@ fn sync_need(members: &[DiskNo], at: u8) -> Need
 impl Plan {
     /// What the job of an operation needs where no call was made yet.
     fn first_need(&self, op: u64) -> Need
-        ensures { need_of (numbers self.now.members.items) result ≡ machine.first_need (plan_setting self.now) (kind_at self.now.ops.items op) }
+        ensures { need_of (numbers self.now.members.items) result
+            ≡ machine.first_need (plan_setting self.now) (kind_at self.now.ops.items op) }
     {
         let members = self.members.as_slice();
         match self.kind(op) {
@@ -86,7 +87,8 @@ impl Plan {
 
     /// What a job needs where nothing holds it.
     pub fn need(&self, work: Work) -> Need
-        ensures { need_of (numbers self.now.members.items) result ≡ machine.need_of (plan_setting self.now) work.op (step_of (numbers self.now.members.items) work.step) }
+        ensures { need_of (numbers self.now.members.items) result
+            ≡ machine.need_of (plan_setting self.now) work.op (step_of (numbers self.now.members.items) work.step) }
     {
         let members = self.members.as_slice();
         match work.step {
@@ -100,7 +102,8 @@ impl Plan {
 
     /// Where a job stands once the members before a place were written.
     pub fn after_write(&self, rest: u8) -> JobStep
-        ensures { step_of (numbers self.now.members.items) result ≡ machine.after_write (plan_setting self.now) (drop rest (numbers self.now.members.items)) }
+        ensures { step_of (numbers self.now.members.items) result
+            ≡ machine.after_write (plan_setting self.now) (drop rest (numbers self.now.members.items)) }
     {
         if (rest as usize) < self.members.len() {
             JobStep::Writing(rest)
@@ -111,7 +114,8 @@ impl Plan {
 
     /// Where a job stands once the members before a place were synced.
     pub fn after_sync(&self, rest: u8) -> JobStep
-        ensures { step_of (numbers self.now.members.items) result ≡ machine.after_sync (drop rest (numbers self.now.members.items)) }
+        ensures { step_of (numbers self.now.members.items) result
+            ≡ machine.after_sync (drop rest (numbers self.now.members.items)) }
     {
         if (rest as usize) < self.members.len() {
             JobStep::Syncing(rest)
@@ -122,7 +126,8 @@ impl Plan {
 
     /// Whether a job holds a row: it does from its first call on.
     pub fn holds(&self, row: u64, work: &Option<Work>) -> bool
-        ensures { result ≡ machine.holds (plan_setting self.now) row (job_of (numbers self.now.members.items) work.now) }
+        ensures { result ≡ machine.holds (plan_setting self.now) row
+            (job_of (numbers self.now.members.items) work.now) }
     {
         match work {
             None => false,
@@ -132,7 +137,8 @@ impl Plan {
 
     /// Whether a job is a write without an answer.
     pub fn is_writing(&self, work: &Option<Work>) -> bool
-        ensures { result ≡ machine.is_writing (plan_setting self.now) (job_of (numbers self.now.members.items) work.now) }
+        ensures { result ≡ machine.is_writing (plan_setting self.now)
+            (job_of (numbers self.now.members.items) work.now) }
     {
         match work {
             None => false,

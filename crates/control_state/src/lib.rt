@@ -1,5 +1,8 @@
-//! The control state of a stage, and what a turn does to it: the state of the volume, the clients and their row jobs. No
-//! device stands here, and nothing takes memory.
+//! The control state of a stage, and what a turn does to it: the state of the volume, the rounds and their blocks, the
+//! clients and their row jobs. No device stands here, and nothing takes memory.
+//!
+//! It owes that each of its functions is one of `stage_machine`, seen in the code's types; also whether an actor has
+//! anything to do. `stage` stands on it and makes the calls.
 #![tactic(auto)]
 
 mod book;

@@ -2,7 +2,7 @@
 ghost use Rattle.std.specs.Prelude.{◌≡◌, ◌≤◌, [], ◌∷◌, length, map, IfOk, None};
 ghost use Rattle.std.specs.List.{range_with_len};
 ghost use Rattle.imsm_codec.specs.Mpb.{block_bytes};
-ghost use Rattle.block_words.specs.Reading.{block_words};
+ghost use Rattle.block_meaning.specs.Reading.{block_words};
 ghost use Rattle.stage_machine.specs.Machine as machine;
 ghost use Rattle.stage_machine.specs.Jobs as jobs;
 ghost use Rattle.control_state.specs.declared.plan.Plan.{Plan as PlanSeen};
@@ -16,10 +16,10 @@ use crate::client::Client;
 use crate::control::{CLIENTS, Control};
 use crate::round::{Phase, Round};
 use crate::state::State;
-use imsm_base::{SECTOR_BYTES, Sector};
 use imsm_buffer::{CodecFault, MpbBuf};
 use imsm_codec::MpbRef;
 use std::alloc::Global;
+use units::{SECTOR_BYTES, Sector};
 
 impl Book {
     /// A copy of a whole block of one sector, with the sector that it was read from.

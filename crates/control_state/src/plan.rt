@@ -8,7 +8,7 @@ ghost use Rattle.control_state.specs.Seen.{plan_setting};
 use array_model::{Op, OpKind};
 use arrayvec::ArrayVec;
 use byteorder::{BigEndian, ByteOrder};
-use imsm_base::{DiskNo, MAX_DISKS, Sector};
+use units::{DiskNo, MAX_DISKS, Sector};
 
 /// The operations of a script, and how one volume of two copies lies: the disks that a round writes to, in the order of
 /// their numbers; the disks of the volume in the order of its slots; the first sector of the volume on each, and its

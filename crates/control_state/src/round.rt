@@ -1,6 +1,6 @@
 //! Rounds: new metadata goes to each target, first its anchor and then a sync.
 ghost use Rattle.std.specs.Prelude.{◌≡◌, ◌+◌, ◌^◌, ◌<◌, drop, slice_get, IfSome};
-ghost use Rattle.imsm_base.specs.declared.bounds.TheConstants.{MAX_DISKS};
+ghost use Rattle.units.specs.declared.bounds.TheConstants.{MAX_DISKS};
 ghost use Rattle.stage_machine.specs.Rounds as machine;
 ghost use Rattle.control_state.specs.Seen.{numbers, plan_setting};
 ghost use Rattle.control_state.specs.Book.{laid_at};
@@ -8,8 +8,8 @@ ghost use Rattle.control_state.specs.Rounds.{round_of, ask_of, next_ask, gone, b
 
 use crate::book::Book;
 use crate::plan::Plan;
-use imsm_base::DiskNo;
 use std::mem;
+use units::DiskNo;
 
 /// What a round asks of a target next.
 #[derive(Clone, Copy, Debug, PartialEq, Eq)]
@@ -67,7 +67,8 @@ impl Round {
     /// A round begins where there is a target: its generation.
     pub fn begin(&mut self, plan: &Plan, dirty: bool) -> Option<u32>
         requires { self.old.note + 1 < 2 ^ 32 }
-        ensures { begun plan.now self.new result ≡ machine.begin (plan_setting plan.now) (round_of plan.now self.old) dirty }
+        ensures { begun plan.now self.new result
+            ≡ machine.begin (plan_setting plan.now) (round_of plan.now self.old) dirty }
     {
         match target_at(plan, 0) {
             None => None,
@@ -82,7 +83,9 @@ impl Round {
 
     /// The targets before a place are done: the next one, or the round's end with its generation.
     fn to_next(&mut self, plan: &Plan, at: u8) -> Option<u32>
-        ensures { ended plan.now self.new result ≡ machine.to_next (plan_setting plan.now) (round_of plan.now self.old) (laid_at self.old.next.anchor) (drop at (numbers plan.now.targets.items)) }
+        ensures { ended plan.now self.new result
+            ≡ machine.to_next (plan_setting plan.now) (round_of plan.now self.old) (laid_at self.old.next.anchor)
+            (drop at (numbers plan.now.targets.items)) }
     {
         if (at as usize) < plan.targets.len() {
             self.phase = Phase::Going(Step::Anchor, at);
@@ -96,7 +99,8 @@ impl Round {
 
     /// The round's call went through: the generation, where the round ends.
     pub fn went(&mut self, plan: &Plan) -> Option<u32>
-        ensures { ended plan.now self.new result ≡ gone (plan_setting plan.now) (round_of plan.now self.old) (round_of plan.now self.old).phase }
+        ensures { ended plan.now self.new result
+            ≡ gone (plan_setting plan.now) (round_of plan.now self.old) (round_of plan.now self.old).phase }
     {
         match self.phase {
             Phase::Rest => None,

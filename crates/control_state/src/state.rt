@@ -4,7 +4,7 @@ ghost use Rattle.stage_machine.specs.States as machine;
 ghost use Rattle.control_state.specs.Seen.{state_of, move_of, pending_if};
 
 use array_model::Event;
-use imsm_base::VolNo;
+use units::VolNo;
 
 /// The state of the array of a volume, as the kernel has it.
 #[derive(Clone, Copy, Debug, PartialEq, Eq)]

@@ -1,7 +1,7 @@
-//! Whether an actor has nothing to do: its turn would make no call and enter nothing. Once a call has failed, no actor has
-//! anything to do.
+//! Whether an actor has nothing to do: its turn would make no call and enter nothing. Once a call has failed, no actor
+//! has anything to do.
 ghost use Rattle.std.specs.Prelude.{◌≡◌, ◌<◌, false, ℕ, List, None};
-ghost use Rattle.imsm_base.specs.declared.units.Sector.{Sector as SectorBytes};
+ghost use Rattle.units.specs.declared.disk.Sector.{Sector as SectorBytes};
 ghost use Rattle.stage_machine.specs.Jobs.{client_at};
 ghost use Rattle.stage_machine.specs.Rounds.{Ended};
 ghost use Rattle.stage_machine.specs.Machine as machine;
@@ -9,7 +9,7 @@ ghost use Rattle.stage_machine.specs.States.{is_readonly};
 ghost use Rattle.control_state.specs.Seen.{plan_setting, move_of, state_of};
 ghost use Rattle.control_state.specs.Rounds.{round_of, next_ask};
 ghost use Rattle.control_state.specs.Controls.{control_of};
-ghost use Rattle.control_state.specs.Still.{is_silent, does_nothing, is_still};
+ghost use Rattle.control_state.specs.Still.{is_silent, turn_does_nothing, is_still};
 
 use crate::client::{has_write, next_op};
 use crate::control::{CLIENTS, Control};
@@ -22,7 +22,8 @@ use array_model::OpKind;
 impl Control {
     /// Whether what the monitor does enters nothing.
     fn is_silent_move(&self, plan: &Plan, what: Move) -> bool
-        ensures { result ≡ is_silent (machine.moved (plan_setting plan.now) (control_of plan.now self.now) (move_of what)).events }
+        ensures { result
+            ≡ is_silent (machine.moved (plan_setting plan.now) (control_of plan.now self.now) (move_of what)).events }
     {
         match what {
             Move::Nothing => true,
@@ -34,7 +35,9 @@ impl Control {
     /// Whether the monitor's turn enters nothing where its round makes no call.
     fn is_silent_rest(&self, plan: &Plan) -> bool
         requires rest { next_ask (round_of plan.now self.now.round).phase ≡ None }
-        ensures { (x : Ended) → result ≡ is_silent (machine.monitor_at (plan_setting plan.now) (control_of plan.now self.now) x (round_of plan.now self.now.round).phase).events }
+        ensures { (x : Ended) → result
+            ≡ is_silent (machine.monitor_at (plan_setting plan.now) (control_of plan.now self.now) x
+            (round_of plan.now self.now.round).phase).events }
     {
         match self.round.phase {
             Phase::Going(_, _) => true,
@@ -47,7 +50,8 @@ impl Control {
 
     /// Whether the monitor has nothing to do while no call has failed.
     fn monitor_waits(&self, plan: &Plan) -> bool
-        ensures { (x : Ended) → result ≡ does_nothing (machine.turn_call (plan_setting plan.now) (control_of plan.now self.now) (machine.Monitors x)) (machine.turn (plan_setting plan.now) (control_of plan.now self.now) (machine.Monitors x)) }
+        ensures { (x : Ended) → result
+            ≡ turn_does_nothing (plan_setting plan.now) (control_of plan.now self.now) (machine.Monitors x) }
     {
         match self.round.ask(plan) {
             Some(_) => false,
@@ -55,16 +59,20 @@ impl Control {
         }
     }
 
-    /// Whether the monitor has nothing to do: no round goes on, none is due that has a target, and the volume's state stays.
+    /// Whether the monitor has nothing to do: no round goes on, none is due that has a target, and the volume's state
+    /// stays.
     pub fn monitor_is_still(&self, plan: &Plan) -> bool
-        ensures { (x : Ended) → result ≡ is_still (plan_setting plan.now) (control_of plan.now self.now) (machine.Monitors x) }
+        ensures { (x : Ended) → result
+            ≡ is_still (plan_setting plan.now) (control_of plan.now self.now) (machine.Monitors x) }
     {
         self.failed.is_some() || self.monitor_waits(plan)
     }
 
     /// Whether an operation that comes next isn't submitted.
     fn is_silent_op(&self, plan: &Plan, op: u64) -> bool
-        ensures { (k : ℕ) → (rest : List ℕ) → result ≡ is_silent (machine.submit_unless (plan_setting plan.now) (control_of plan.now self.now) k op rest (is_readonly (state_of self.now.state))).events }
+        ensures { (k : ℕ) → (rest : List ℕ) → result
+            ≡ is_silent (machine.submit_unless (plan_setting plan.now) (control_of plan.now self.now) k op rest
+            (is_readonly (state_of self.now.state))).events }
     {
         self.state.is_readonly()
             || match plan.kind(op) {
@@ -76,7 +84,9 @@ impl Control {
     /// Whether a client without a job submits nothing.
     fn is_silent_submit(&self, plan: &Plan, k: u8) -> bool
         requires { k < 16 }
-        ensures { result ≡ is_silent (machine.submit_next (plan_setting plan.now) (control_of plan.now self.now) k (client_at (control_of plan.now self.now).clients k).left).events }
+        ensures { result
+            ≡ is_silent (machine.submit_next (plan_setting plan.now) (control_of plan.now self.now) k
+            (client_at (control_of plan.now self.now).clients k).left).events }
     {
         let client = self.clients[k as usize];
         match next_op(&plan.ops, client.number, client.next) {
@@ -88,7 +98,8 @@ impl Control {
     /// Whether a client has nothing to do while no call has failed.
     fn client_waits(&self, plan: &Plan, k: u8) -> bool
         requires { k < 16 }
-        ensures { (x : Ended) → (got : SectorBytes) → result ≡ does_nothing (machine.turn_call (plan_setting plan.now) (control_of plan.now self.now) (machine.Asks k x got)) (machine.turn (plan_setting plan.now) (control_of plan.now self.now) (machine.Asks k x got)) }
+        ensures { (x : Ended) → (got : SectorBytes)
+            → result ≡ turn_does_nothing (plan_setting plan.now) (control_of plan.now self.now) (machine.Asks k x got) }
     {
         match self.work(k) {
             None => self.is_silent_submit(plan, k),
@@ -96,11 +107,12 @@ impl Control {
         }
     }
 
-    /// Whether a client has nothing to do: its job is held, or it has none and submits nothing. No client stands at a place
-    /// of 16 or above, and there nothing is to do.
+    /// Whether a client has nothing to do: its job is held, or it has none and submits nothing. No client stands at a
+    /// place of 16 or above, and there nothing is to do.
     pub fn client_is_still(&self, plan: &Plan, k: u8) -> bool
         ensures there { result ≡ false → k < 16 }
-        ensures still { (x : Ended) → (got : SectorBytes) → result ≡ is_still (plan_setting plan.now) (control_of plan.now self.now) (machine.Asks k x got) }
+        ensures still { (x : Ended) → (got : SectorBytes)
+            → result ≡ is_still (plan_setting plan.now) (control_of plan.now self.now) (machine.Asks k x got) }
     {
         if k as usize >= CLIENTS {
             return true;

@@ -30,7 +30,8 @@ impl Control {
     fn past(&mut self, plan: &Plan, k: u8, number: u8, op: u64) -> Events
         requires client { k < 16 }
         requires op { op < length plan.now.ops.items }
-        ensures { out_of plan.now self.new result ≡ machine.past (control_of plan.now self.old) k op (left_from plan.now.ops.items number (op + 1)) }
+        ensures { out_of plan.now self.new result
+            ≡ machine.past (control_of plan.now self.old) k op (left_from plan.now.ops.items number (op + 1)) }
     {
         self.put(k, behind(number, op, None));
         Events::Two(Event::Submit(op), Event::Ack(op, Answer::Past))
@@ -39,7 +40,9 @@ impl Control {
     fn submit_write(&mut self, plan: &Plan, k: u8, number: u8, op: u64) -> Events
         requires client { k < 16 }
         requires op { op < length plan.now.ops.items }
-        ensures { out_of plan.now self.new result ≡ machine.submit_write (control_of plan.now self.old) k op (left_from plan.now.ops.items number (op + 1)) (place_at (plan_setting plan.now) op) }
+        ensures { out_of plan.now self.new result
+            ≡ machine.submit_write (control_of plan.now self.old) k op (left_from plan.now.ops.items number (op + 1))
+            (place_at (plan_setting plan.now) op) }
     {
         if !plan.is_placed(op) {
             return self.past(plan, k, number, op);
@@ -58,7 +61,9 @@ impl Control {
     fn submit_read(&mut self, plan: &Plan, k: u8, number: u8, op: u64) -> Events
         requires client { k < 16 }
         requires op { op < length plan.now.ops.items }
-        ensures { out_of plan.now self.new result ≡ machine.submit_read (control_of plan.now self.old) k op (left_from plan.now.ops.items number (op + 1)) (place_at (plan_setting plan.now) op) }
+        ensures { out_of plan.now self.new result
+            ≡ machine.submit_read (control_of plan.now self.old) k op (left_from plan.now.ops.items number (op + 1))
+            (place_at (plan_setting plan.now) op) }
     {
         if !plan.is_placed(op) {
             return self.past(plan, k, number, op);
@@ -71,7 +76,9 @@ impl Control {
     fn submit_op(&mut self, plan: &Plan, k: u8, number: u8, op: u64) -> Events
         requires client { k < 16 }
         requires op { op < length plan.now.ops.items }
-        ensures { out_of plan.now self.new result ≡ machine.submit_unless (plan_setting plan.now) (control_of plan.now self.old) k op (left_from plan.now.ops.items number (op + 1)) (is_readonly (state_of self.old.state)) }
+        ensures { out_of plan.now self.new result
+            ≡ machine.submit_unless (plan_setting plan.now) (control_of plan.now self.old) k op
+            (left_from plan.now.ops.items number (op + 1)) (is_readonly (state_of self.old.state)) }
     {
         if self.state.is_readonly() {
             return Events::Zero;
@@ -86,7 +93,9 @@ impl Control {
     /// A client's next operation is submitted, where there is one and the volume isn't readonly.
     pub fn submit(&mut self, plan: &Plan, k: u8) -> Events
         requires { k < 16 }
-        ensures { out_of plan.now self.new result ≡ machine.submit_next (plan_setting plan.now) (control_of plan.now self.old) k (client_at (control_of plan.now self.old).clients k).left }
+        ensures { out_of plan.now self.new result
+            ≡ machine.submit_next (plan_setting plan.now) (control_of plan.now self.old) k
+            (client_at (control_of plan.now self.old).clients k).left }
     {
         let client = self.clients[k as usize];
         match next_op(&plan.ops, client.number, client.next) {

@@ -2,19 +2,20 @@
 use Rattle.std.proofs.Common.{◌≡◌, ℕ, ◌+◌, ◌≤◌, false, List, [], length, map, take, None, sym, ◌∙◌, ap, subst, arith}
 use Rattle.std.specs.Prelude.{is_none}
 use Rattle.std.proofs.lemmas.List.{append-nil, length-take}
-use Rattle.imsm_base.specs.declared.units.Sector.{Sector}
+use Rattle.units.specs.declared.disk.Sector.{Sector}
 use Rattle.imsm_base.specs.Fields.{number_at}
 use Rattle.imsm_base.specs.Layout.{Block}
 use Rattle.imsm_base.specs.Parts.{block_in}
-use Rattle.imsm_base.specs.Whole.{expected_serials, extended_count}
+use Rattle.imsm_base.specs.Whole.{expected_serials}
+use Rattle.units.specs.Places.{extended_count}
 use Rattle.imsm_base.specs.Volumes.{members, is_dirty, volume_fault}
 use Rattle.imsm_base.proofs.Spliced.{number_at-take}
 use Rattle.imsm_codec.specs.Given.{size_in, given_block}
 use Rattle.array_model.specs.Blocks.{Laid}
-use Rattle.array_model.specs.Meaning.{bytes_of_laid, has_serial, of_volume, pass_of, slot_words}
+use Rattle.block_meaning.specs.Meaning.{bytes_of_laid, has_serial, of_volume, pass_of, slot_words}
 use Rattle.array_model.specs.Renewal.{SaysSame}
-use Rattle.block_words.specs.Reading.{parts_of, block_words}
-use Rattle.block_words.specs.Whole.{is_whole_disk}
+use Rattle.block_meaning.specs.Reading.{parts_of, block_words}
+use Rattle.block_meaning.specs.Whole.{is_whole_disk}
 use Rattle.stage_machine.specs.Opens.{SaysAll}
 
 -- a block of one sector

@@ -5,14 +5,14 @@ use Rattle.std.specs.Option.{option_map_or}
 use Rattle.std.proofs.lemmas.Bool.{or_parts, false≢true, eqb-true, true_from_ne_false}
 use Rattle.std.proofs.lemmas.Option.{get_or_from_slice_get, slice_get-get_or}
 use Rattle.std.proofs.lemmas.Slice.Eq.{bytes_eq-Decides}
-use Rattle.imsm_base.specs.declared.units.Sector.{Sector}
+use Rattle.units.specs.declared.disk.Sector.{Sector}
 use Rattle.imsm_base.specs.Layout.{Volume, volume_size_of, pba_of}
 use Rattle.imsm_base.specs.Parts.{block_in}
 use Rattle.imsm_base.specs.Volumes.{first_map}
 use Rattle.array_model.specs.Blocks.{sector_eq}
 use Rattle.array_model.specs.Placement.{Shape}
 use Rattle.array_model.specs.Script.{Asked}
-use Rattle.block_words.specs.Reading.{block_words}
+use Rattle.block_meaning.specs.Reading.{block_words}
 use Rattle.stage_machine.specs.Setting.{has}
 use Rattle.stage_machine.specs.Opens.{HoldsContent}
 use Rattle.first_opening.specs.Opened.{Opened, IsOpening, newest_of, block_of, numbers_of, setting_of}

@@ -4,25 +4,26 @@ use Rattle.std.specs.List.{list_all}
 use Rattle.std.specs.Option.{IsSomeAnd}
 use Rattle.std.proofs.lemmas.Bool.{and_parts, and_right, ltb-true, ltb-false, false≢true}
 use Rattle.std.proofs.lemmas.Option.{get_or_from_slice_get}
-use Rattle.imsm_base.specs.declared.units.Sector.{Sector}
+use Rattle.units.specs.declared.disk.Sector.{Sector}
 use Rattle.imsm_base.specs.Fields.{Part, number_at}
 use Rattle.imsm_base.specs.Layout.{Block, disk_count_of, serial_of, total_blocks_of}
 use Rattle.imsm_base.specs.Edits.{first_sector}
 use Rattle.imsm_base.specs.Parts.{block_in}
-use Rattle.imsm_base.specs.Whole.{IsWholeBlock, IsWholeDisk, anchor_place, expected_serials}
+use Rattle.imsm_base.specs.Whole.{IsWholeBlock, IsWholeDisk, expected_serials}
+use Rattle.units.specs.Places.{anchor_place}
 use Rattle.imsm_base.proofs.Apart.{length-disks}
 use Rattle.imsm_codec.specs.Given.{given_block}
 use Rattle.device_log.specs.Cells.{Cell, resting}
 use Rattle.array_model.specs.Blocks.{Laid}
 use Rattle.array_model.specs.Candidates.{standing, standing_from}
-use Rattle.array_model.specs.Meaning.{bytes_of_laid, has_serial}
+use Rattle.block_meaning.specs.Meaning.{bytes_of_laid, has_serial}
 use Rattle.array_model.specs.Renewal.{IsRenewable}
 use Rattle.array_model.specs.Script.{Asked}
 use Rattle.array_model.specs.Start.{Disks, disks_of}
-use Rattle.block_words.specs.Reading.{parts_of, block_words}
-use Rattle.block_words.specs.Renewed.{renewed, renewed_bytes}
-use Rattle.block_words.proofs.Decided.{disk-decided}
-use Rattle.block_words.proofs.Renewal.{first-form}
+use Rattle.block_meaning.specs.Reading.{parts_of, block_words}
+use Rattle.block_meaning.specs.Renewed.{renewed, renewed_bytes}
+use Rattle.block_meaning.proofs.Decided.{disk-decided}
+use Rattle.block_meaning.proofs.Renewal.{first-form}
 use Rattle.stage_machine.specs.Setting.{has}
 use Rattle.stage_machine.specs.Opens.{SaysAll, StandsOnAll}
 use Rattle.first_opening.specs.Opened.{Opened, IsOpening, serial_at, newest_of, block_of, numbers_of, targets_of, setting_of}

@@ -1,5 +1,5 @@
 -- Lists of disk numbers, and what is in them.
-use Rattle.std.proofs.Common.{◌≡◌, ◌≢◌, ℕ, zero, suc, ◌+◌, ◌<◌, ◌≤◌, ◌==◌, ◌&&◌, ◌||◌, Bool, true, false, cond, List, [], ◌∷◌, ◌++◌, filter, flat_map, slice_get, Some, refl, sym, ◌∙◌, ap, subst, arith}
+use Rattle.std.proofs.Common.{◌≡◌, ◌≢◌, ℕ, zero, suc, ◌+◌, ◌<◌, ◌≤◌, ◌==◌, ◌&&◌, ◌||◌, Bool, true, false, cond, List, [], ◌∷◌, ◌++◌, filter, flat_map, slice_get, Some, refl, sym, ◌∙◌, ap, subst, arith, replicate}
 use Rattle.std.specs.List.{range_with_len}
 use Rattle.std.proofs.lemmas.Bool.{false≢true, eqb-true, eqb-false, eq-eqb, or_left, or_right}
 use Rattle.std.proofs.Math.Bool.{or_assoc}
@@ -66,3 +66,8 @@ pub in-flat : {X : Type 0} (f : X → List ℕ) (d : ℕ) (xs : List X) (i : ℕ
 in-flat f d [] i x there e = cc
 in-flat f d (y ∷ ys) zero x there e = let same : y ≡ x = cc there in has-append d (f y) (flat_map f ys) ∙ or_left _ _ (subst (λ z. has d (f z) ≡ true) (sym same) e)
 in-flat f d (y ∷ ys) (suc i) x there e = has-append d (f y) (flat_map f ys) ∙ or_right _ _ (in-flat f d ys i x there e)
+
+-- what stands behind so many equal items
+pub slice_get-behind : {X : Type 0} (n : ℕ) (z x : X) (xs : List X) → slice_get (replicate n z ++ x ∷ xs) n ≡ Some x
+slice_get-behind zero z x xs = refl
+slice_get-behind (suc n) z x xs = slice_get-behind n z x xs

@@ -6,7 +6,7 @@ use Rattle.std.proofs.lemmas.Bool.{and_parts, or_left, or_right, or_from}
 use Rattle.imsm_base.specs.Fields.{Part}
 use Rattle.imsm_base.specs.Layout.{Block, HasLengths, disk_lengths, serial_of}
 use Rattle.imsm_base.specs.Whole.{is_expected, first_of, own_record}
-use Rattle.array_model.specs.Meaning.{has_serial}
+use Rattle.block_meaning.specs.Meaning.{has_serial}
 
 found-in : {X : Type 0} (p : X → Bool) (xs : List X) (x : X) → find p xs ≡ Some x → (i : ℕ) × (slice_get xs i ≡ Some x) × (p x ≡ true)
 found-in p [] x e = cc

@@ -11,8 +11,8 @@ use Rattle.imsm_base.specs.Parts.{block_in}
 use Rattle.imsm_base.specs.Whole.{AreApart}
 use Rattle.imsm_base.specs.Volumes.{Member, member}
 use Rattle.array_model.specs.Blocks.{SlotWords}
-use Rattle.array_model.specs.Meaning.{has_serial, slot_words}
-use Rattle.block_words.specs.Reading.{block_words}
+use Rattle.block_meaning.specs.Meaning.{has_serial, slot_words}
+use Rattle.block_meaning.specs.Reading.{block_words}
 use Rattle.first_opening.specs.Opened.{Opened, IsOpening, serial_at, newest_of, block_of, numbers_of, disks_in_slot, members_of}
 use Rattle.first_opening.proofs.Found.{two-records}
 use Rattle.first_opening.proofs.Volume.{ArePair, the-volume, mirror, pair}

@@ -2,24 +2,25 @@
 use Rattle.std.proofs.Common.{◌≡◌, ◌≢◌, ℕ, zero, suc, ◌+◌, ◌<◌, ◌≤◌, ◌==◌, ◌&&◌, not, Bool, true, false, List, [], ◌∷◌, length, map, slice_get, slice_index, get_or, nat_lt, nat_le, Option, Some, None, if◌then◌else◌, bytes_eq, ◌⊎◌, inl, inr, refl, sym, ◌∙◌, ap, subst, arith}
 use Rattle.std.specs.List.{AllByRecursion, list_all}
 use Rattle.std.specs.Option.{option_map_or}
-use Rattle.std.proofs.lemmas.Bool.{false≢true, and_parts, or_parts, and_from, leb-true, ltb-true, ltb-false, eqb-true, eqb-false, not_from_false}
+use Rattle.std.proofs.lemmas.Bool.{false≢true, and_parts, or_parts, and_from, leb-true, ltb-true, ltb-false, eqb-true, eqb-false, not_from_false, not-true}
 use Rattle.std.proofs.lemmas.List.{get_or_past}
 use Rattle.std.proofs.lemmas.Option.{slice_get_within, slice_get-get_or}
 use Rattle.std.proofs.lemmas.Slice.Eq.{bytes_eq-Decides}
-use Rattle.imsm_base.specs.declared.bounds.TheConstants.{METADATA_SECTORS}
-use Rattle.imsm_base.specs.declared.units.Level.{Level}
-use Rattle.imsm_base.specs.declared.units.Sector.{Sector}
+use Rattle.units.specs.declared.bounds.TheConstants.{METADATA_SECTORS}
+use Rattle.units.specs.declared.volume.Level.{Level}
+use Rattle.units.specs.declared.disk.Sector.{Sector}
 use Rattle.imsm_base.specs.Fields.{Part}
 use Rattle.imsm_base.specs.Layout.{Block, Volume, serial_of, disk_count_of, volume_size_of, strip_of, pba_of, member_count_of, migration_type_of, total_blocks_of}
 use Rattle.imsm_base.specs.Parts.{block_in}
-use Rattle.imsm_base.specs.Volumes.{Member, first_map, member, members, is_in_sync, is_like, has_geometry, has_sectors, volume_rows, rows_of}
+use Rattle.imsm_base.specs.Volumes.{Member, first_map, member, members, is_in_sync, is_like, has_geometry, has_sectors, volume_rows}
+use Rattle.units.specs.Levels.{rows_of}
 use Rattle.imsm_base.specs.FirstForm.{IsCleanMirror}
 use Rattle.imsm_codec.proofs.Mirror.{AreMirrorTests, tests_from_mirror, members_two, mirror_slots, mirror_out}
 use Rattle.array_model.specs.Blocks.{SlotWords}
-use Rattle.array_model.specs.Meaning.{of_volume, pass_of, shape_of, no_shape, slot_words}
+use Rattle.block_meaning.specs.Meaning.{of_volume, pass_of, shape_of, no_shape, slot_words}
 use Rattle.array_model.specs.Placement.{Shape}
 use Rattle.array_model.specs.Script.{Asked}
-use Rattle.block_words.specs.Reading.{block_words}
+use Rattle.block_meaning.specs.Reading.{block_words}
 use Rattle.stage_machine.specs.Setting.{has}
 use Rattle.stage_machine.specs.Opens.{IsFirstVolume}
 use Rattle.first_opening.specs.Opened.{Opened, IsOpening, serial_at, newest_of, block_of, numbers_of, disks_in_slot, members_of, setting_of}
@@ -68,10 +69,6 @@ pub record ArePair (v : Volume) : Type 0 where
 
 apart-of : (a b : ℕ) → not (a == b) ≡ true → a ≢ b
 apart-of a b e = eqb-false a b (not-true (a == b) e)
-  where
-    not-true : (x : Bool) → not x ≡ true → x ≡ false
-    not-true true e = sym e
-    not-true false e = refl
 
 three-parts : (a b c : Bool) → (a && b && c) ≡ true → (a ≡ true) × (b ≡ true) × (c ≡ true)
 three-parts true true c e = (refl, refl, e)

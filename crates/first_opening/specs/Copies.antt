@@ -2,12 +2,12 @@
 -- own.
 use Rattle.std.specs.Prelude.{◌≡◌, ℕ, ◌+◌, ◌<◌, not, Bool, false, [], length, slice_get, slice_index_or, Some}
 use Rattle.std.specs.List.{list_any}
-use Rattle.imsm_base.specs.declared.units.Sector.{Sector}
+use Rattle.units.specs.declared.disk.Sector.{Sector}
 use Rattle.imsm_base.specs.Layout.{Volume, volume_size_of, pba_of}
 use Rattle.imsm_base.specs.Parts.{block_in}
 use Rattle.imsm_base.specs.Volumes.{first_map}
 use Rattle.array_model.specs.Blocks.{sector_eq}
-use Rattle.block_words.specs.Reading.{block_words}
+use Rattle.block_meaning.specs.Reading.{block_words}
 use Rattle.first_opening.specs.Opened.{Opened, newest_of, block_of, numbers_of}
 
 -- each sector of a volume that isn't unsure stands on all disks, and is the volume's content
@@ -25,7 +25,8 @@ HoldsCopies o content unsure =
 -- sector s of a volume as disk d holds it
 abbrev pub copy_on : Opened → (d volume s : ℕ) → Sector
 copy_on o d volume s =
-    slice_index_or (slice_index_or o.contents d []) ((block_words.shape (newest_of o) volume).pba + s) (record { 0 = [] })
+    slice_index_or (slice_index_or o.contents d []) ((block_words.shape (newest_of o) volume).pba + s)
+    (record { 0 = [] })
 
 abbrev pub first_copy : Opened → (volume s : ℕ) → Sector
 first_copy o volume s = copy_on o 0 volume s

@@ -4,10 +4,11 @@ use Rattle.std.specs.Prelude.{◌≡◌, ℕ, ◌<◌, ◌==◌, ◌&&◌, nat_l
 use Rattle.std.specs.List.{list_all, range_with_len}
 use Rattle.std.specs.Option.{IsSomeAnd}
 use Rattle.std.specs.Str.{bytes_eq}
-use Rattle.imsm_base.specs.declared.units.Sector.{Sector}
+use Rattle.units.specs.declared.disk.Sector.{Sector}
 use Rattle.imsm_base.specs.Layout.{serial_of}
 use Rattle.imsm_base.specs.Parts.{block_in}
-use Rattle.imsm_base.specs.Whole.{AreApart, IsWholeDisk, anchor_place}
+use Rattle.imsm_base.specs.Whole.{AreApart, IsWholeDisk}
+use Rattle.units.specs.Places.{anchor_place}
 use Rattle.imsm_base.specs.FirstForm.{IsFirstForm}
 use Rattle.imsm_codec.specs.Given.{given_block}
 use Rattle.array_model.specs.declared.script.Op.{Op}
@@ -15,10 +16,10 @@ use Rattle.array_model.specs.declared.script.OpKind.{OpKind}
 use Rattle.array_model.specs.declared.script.OpKind.TheVariants.{Write, Read, Whole}
 use Rattle.array_model.specs.Script.{Asked}
 use Rattle.array_model.specs.Blocks.{Laid, SlotWords}
-use Rattle.array_model.specs.Meaning.{has_serial}
+use Rattle.block_meaning.specs.Meaning.{has_serial}
 use Rattle.array_model.specs.Start.{disks_of}
-use Rattle.block_words.specs.Reading.{block_words}
-use Rattle.block_words.specs.Renewed.{renewed}
+use Rattle.block_meaning.specs.Reading.{block_words}
+use Rattle.block_meaning.specs.Renewed.{renewed}
 use Rattle.stage_machine.specs.Setting.{Setting}
 
 -- the disks of a bank, by number: serials, sizes in sectors, and sectors; and the anchor sector of the newest block, as
@@ -76,11 +77,16 @@ setting_of o asked content unsure = record {
   renew = renewed;
 }
 
+-- what is said of a run over this opening, of whatever script, content and unsure sectors
+abbrev pub OfEachSetting : Opened → (Setting → Type 0) → Type 0
+OfEachSetting o Fact =
+    (asked : Asked) (content : ℕ → ℕ → Sector) (unsure : ℕ → ℕ → Bool) → Fact (setting_of o asked content unsure)
+
 -- WHAT THE OPENING FOUND
 
 -- Each disk is whole by the block, which is of the first form; the disks are those of the block's table, each with a
--- serial of its own. All anchors begin with the block, each with bytes of its own behind the block's end, and one of them
--- is the anchor that was read.
+-- serial of its own. All anchors begin with the block, each with bytes of its own behind the block's end, and one of
+-- them is the anchor that was read.
 pub record IsOpening (o : Opened) : Type 0 where
   pub sizes : o.sizes ≡ map (λ (sectors : List Sector). length sectors) o.contents
   pub apart : AreApart o.serials
@@ -89,7 +95,8 @@ pub record IsOpening (o : Opened) : Type 0 where
   pub whole : (d : ℕ) → d < length o.serials
       → IsWholeDisk (serial_at o d) (slice_index o.sizes d) (block_of o) (block_in (block_of o))
   pub anchored : (d : ℕ) → d < length o.serials
-      → IsSomeAnd (slice_get (slice_index_or o.contents d []) (anchor_place (slice_index o.sizes d))) (λ s. given_block s.0 ≡ block_of o)
+      → IsSomeAnd (slice_get (slice_index_or o.contents d []) (anchor_place (slice_index o.sizes d)))
+      (λ s. given_block s.0 ≡ block_of o)
   pub read : (d : ℕ) × (d < length o.serials)
       × (slice_get (slice_index_or o.contents d []) (anchor_place (slice_index o.sizes d)) ≡ Some o.anchor)
 

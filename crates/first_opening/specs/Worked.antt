@@ -1,8 +1,8 @@
 -- A bank that opens: two disks of 4,096 sectors that hold the container of the example, any bytes behind its block, and
 -- zeros. Source: this project's own.
 use Rattle.std.specs.Prelude.{ℕ, List, [], ◌∷◌, ◌++◌, replicate}
-use Rattle.imsm_base.specs.declared.bounds.TheConstants.{SECTOR_BYTES}
-use Rattle.imsm_base.specs.declared.units.Sector.{Sector}
+use Rattle.units.specs.declared.bounds.TheConstants.{SECTOR_BYTES}
+use Rattle.units.specs.declared.disk.Sector.{Sector}
 use Rattle.imsm_base.specs.Vector.{mirror_bytes}
 use Rattle.first_opening.specs.Opened.{Opened}
 

@@ -1,7 +1,7 @@
 -- What a turn leaves as it was, what it spends, and why it ends a drive.
 use Rattle.std.proofs.Common.{◌≡◌, ℕ, ◌+◌, ◌<◌, Bool, true, false, List, [], ◌∷◌, length, Option, Some, None, ◌⊎◌, inl, inr, refl, ap, sym, subst, ◌∙◌, arith, length-append}
 use Rattle.std.proofs.lemmas.Bool.{cases_order}
-use Rattle.imsm_base.specs.declared.units.Sector.{Sector}
+use Rattle.units.specs.declared.disk.Sector.{Sector}
 use Rattle.device_log.specs.Log.{Call}
 use Rattle.array_model.specs.declared.journal.Entry.{Entry}
 use Rattle.array_model.specs.declared.journal.Event.{Event}
@@ -12,7 +12,7 @@ use Rattle.stage.specs.declared.ends.Cycle.TheVariants.{Rested}
 use Rattle.stage.specs.declared.turned.Turned.{Turned}
 use Rattle.stage.specs.declared.turned.Turned.TheVariants.{Moved, Idle, JournalFull, Member}
 use Rattle.stage.specs.Stages.{Seen, Turns, Acted, Answered, setting_of}
-use Rattle.stage.specs.Drives.{Follows, IsFullWithWork, TurnEnds, Spends, ClientsStill, Cycled, AllStill, spent, budget}
+use Rattle.stage.specs.Drives.{Follows, Spends, ClientsStill, Cycled, AllStill, spent, budget}
 use Rattle.stage.proofs.Staged.{not_full, length-stamped}
 
 follows_same : {B : Type 0} (a b : Seen B) → b ≡ a → Follows a b
@@ -54,16 +54,6 @@ answered_follows {B} a b act (Member d) answered = by answered.1
     by : (b ≡ a) ⊎ Acted a b act → Follows a b
     by (inl same) = follows_same a b same
     by (inr acted) = acted_follows a b act acted
-
--- the journal has no room for a turn that there is to take
-pub full_with_work : {B : Type 0} (a b : Seen B) (act : Action) → Answered a b act JournalFull → IsFullWithWork b
-full_with_work {B} a b act answered = subst (λ (x : Seen B). IsFullWithWork x) (sym answered.0) (record { full = answered.3; live = answered.1; actor = act; waits = answered.2 })
-
-pub answered_ends : {B : Type 0} (a b : Seen B) (act : Action) (r : Turned) → Answered a b act r → TurnEnds b r
-answered_ends a b act Moved answered = tt
-answered_ends a b act Idle answered = tt
-answered_ends a b act JournalFull answered = full_with_work a b act answered
-answered_ends a b act (Member d) answered = answered.0
 
 pub follows_on : {B : Type 0} (a b c : Seen B) → Follows a b → Follows b c → Follows a c
 follows_on a b c one two =

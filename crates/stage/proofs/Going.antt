@@ -1,6 +1,6 @@
 -- One turn of the stage is one turn of the machine.
 use Rattle.std.proofs.Common.{◌≡◌, ℕ, List, [], ◌∷◌, ◌++◌, Option, Some, None, refl, ap, sym, subst, ◌∙◌, append_assoc}
-use Rattle.imsm_base.specs.declared.units.Sector.{Sector}
+use Rattle.units.specs.declared.disk.Sector.{Sector}
 use Rattle.device_log.specs.Log.{Call, What, Read, Sync}
 use Rattle.member_bank.specs.Told.{Keeps, Gives}
 use Rattle.array_model.specs.declared.journal.Entry.{Entry}

@@ -1,6 +1,6 @@
 -- Turns that follow one another keep the bank, and without a call no disk fails.
-use Rattle.std.proofs.Common.{◌≡◌, ℕ, ◌+◌, ◌≤◌, Bool, true, false, not, List, [], ◌∷◌, ◌++◌, length, length-append, append_assoc, Option, Some, None, refl, ap, sym, subst, ◌∙◌, arith}
-use Rattle.imsm_base.specs.declared.units.Serial.{Serial}
+use Rattle.std.proofs.Common.{◌≡◌, ℕ, ◌+◌, Bool, true, false, not, List, [], ◌∷◌, ◌++◌, length, length-append, append_assoc, Option, Some, None, refl, ap, sym, subst, ◌∙◌, arith}
+use Rattle.units.specs.declared.disk.Serial.{Serial}
 use Rattle.array_model.specs.declared.script.OpKind.{OpKind}
 use Rattle.array_model.specs.declared.script.OpKind.TheVariants.{Write as OpWrite, Read as OpRead, Whole as OpWhole}
 use Rattle.array_model.specs.Placement.{Place}
@@ -8,7 +8,6 @@ use Rattle.array_model.specs.Script.{kind_at}
 use Rattle.std.proofs.lemmas.List.{append-nil}
 use Rattle.device_log.specs.Log.{Call}
 use Rattle.member_bank.specs.Faults.{Rose}
-use Rattle.member_bank.specs.Told.{Logs}
 use Rattle.stage_machine.specs.Setting.{Setting}
 use Rattle.stage_machine.specs.Rounds.{Phase, Rest, Going, Ended}
 use Rattle.stage_machine.specs.States.{State, IsReadonly, IsReadAuto, IsClean, IsPending, IsActive, IsIdle, Move, Nothing, Starts, Makes, decide, is_readonly}
@@ -17,6 +16,7 @@ use Rattle.stage_machine.specs.Machine.{Control, Out, monitor_at, moved, submit_
 use Rattle.control_state.specs.Rounds.{next_ask}
 use Rattle.stage.specs.Stages.{Seen}
 use Rattle.stage.specs.Causes.{Counts, Grows, KeepsBank}
+use Rattle.member_bank.proofs.Faults.{rose_later}
 
 -- WITHOUT A CALL NO DISK FAILS
 
@@ -77,9 +77,6 @@ counts_same before failed live = record { later = λ d. omega arith; cause = λ 
 pub grows_same : (told : Option (List Call)) (calls : ℕ) → Grows told calls told calls
 grows_same told calls = record { by = λ all is. (all, [], is, sym (append-nil all), omega arith) }
 
-pub grows_call : (told : Option (List Call)) (calls : ℕ) (now : Option (List Call)) (call : Call) → Logs told now call → Grows told calls now (calls + 1)
-grows_call told calls now call logs = record { by = λ all is. let it = logs all is in (it.0, call ∷ [], it.1, it.2, omega arith) }
-
 pub grows_on : (one : Option (List Call)) (a : ℕ) (two : Option (List Call)) (b : ℕ) (three : Option (List Call)) (c : ℕ) → Grows one a two b → Grows two b three c → Grows one a three c
 grows_on one a two b three c first second = record {
   by = λ all is.
@@ -92,9 +89,6 @@ grows_on one a two b three c first second = record {
 
 -- THE BANK
 
-rose_from : (n m k : ℕ) → n ≤ m → Rose m k → Rose n k
-rose_from n m k more rose = omega (arith, more, rose)
-
 pub bank_on : {B : Type 0} (serials : B → List Serial) (sizes : B → List ℕ) (log : B → Option (List Call)) (faults : B → ℕ → ℕ) (a b c : Seen B) → KeepsBank serials sizes log faults a b → KeepsBank serials sizes log faults b c → KeepsBank serials sizes log faults a c
 bank_on {B} serials sizes log faults a b c one two = record {
   serials_kept = two.serials_kept ∙ one.serials_kept;
@@ -106,7 +100,7 @@ bank_on {B} serials sizes log faults a b c one two = record {
 }
   where
     by : a.control.failed ≡ None → (d : ℕ) → c.control.failed ≡ Some d → (failed : Option ℕ) → b.control.failed ≡ failed → Rose (faults a.bank d) (faults c.bank d)
-    by live d at None is = rose_from (faults a.bank d) (faults b.bank d) (faults c.bank d) (one.later d) (two.cause is d at)
+    by live d at None is = rose_later (faults a.bank d) (faults b.bank d) (faults c.bank d) (one.later d) (two.cause is d at)
     by live d at (Some e) is =
         let same = two.ended e is in
         subst (λ (x : Seen B). Rose (faults a.bank d) (faults x.bank d)) (sym same) (one.cause live d (sym (ap (λ (x : Seen B). x.control.failed) same) ∙ at))

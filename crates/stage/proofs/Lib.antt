@@ -4,6 +4,7 @@ pub mod Going
 pub mod Same
 pub mod Monitors
 pub mod Asking
+pub mod Room
 pub mod Staged
 pub mod Opened
 pub mod Stilled

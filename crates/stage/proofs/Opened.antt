@@ -1,21 +1,21 @@
 -- What is opened is a stage.
 use Rattle.std.proofs.Common.{◌≡◌, ℕ, ◌^◌, ◌<◌, ◌≤◌, List, [], Option, Some, None, refl, ap, sym, subst, ◌∙◌, arith}
 use Rattle.std.proofs.lemmas.List.{append-nil}
-use Rattle.imsm_base.specs.declared.units.DiskNo.{DiskNo}
-use Rattle.imsm_base.specs.declared.units.Sector.{Sector}
+use Rattle.units.specs.declared.disk.DiskNo.{DiskNo}
+use Rattle.units.specs.declared.disk.Sector.{Sector}
 use Rattle.device_log.specs.Log.{Call}
 use Rattle.array_model.specs.Blocks.{Laid}
 use Rattle.array_model.specs.Kept.{JournalState}
-use Rattle.block_words.specs.Reading.{block_words}
+use Rattle.block_meaning.specs.Reading.{block_words}
 use Rattle.stage_machine.specs.Machine.{Control, opens, opens_true}
 use Rattle.control_state.specs.declared.plan.Plan.{Plan}
 use Rattle.control_state.specs.Begins.{begins_at}
 use Rattle.control_state.specs.Book.{laid_at}
 use Rattle.control_state.specs.Seen.{numbers}
-use Rattle.stage.specs.Runs.{run_setting, FitsDisks, FitsBank, OnlyReads, RanTrue}
+use Rattle.stage.specs.Runs.{run_setting, FitsDisks, FitsBank, TellsOnlyReads, RanTrue}
 use Rattle.stage.specs.Stages.{IsStage}
 
-ran_open : (p : Plan) (newest : Laid) (sizes : List ℕ) (contents : Option (List (List Sector))) (told : Option (List Call)) → OnlyReads told → RanTrue (run_setting p newest sizes) (begins_at p newest) 0 [] contents told
+ran_open : (p : Plan) (newest : Laid) (sizes : List ℕ) (contents : Option (List (List Sector))) (told : Option (List Call)) → TellsOnlyReads told → RanTrue (run_setting p newest sizes) (begins_at p newest) 0 [] contents told
 ran_open p newest sizes contents None reads = record {
   ran = record { before = []; reads = tt; log = []; run = opens; agrees = λ all at. absurd (cc at) };
   honest = λ opening all held known. absurd (cc known);
@@ -37,7 +37,7 @@ fits_as p targets members pba size sizes one two three four fits = rw (one, two,
 
 pub opened : (p : Plan) (newest : Sector) (c : Control) (targets members : List DiskNo) (pba size limit : ℕ) (sizes : List ℕ) (j : JournalState) (contents : Option (List (List Sector))) (told : Option (List Call))
     → c ≡ begins_at p (laid_at newest) → p.targets.items ≡ targets → p.members.items ≡ members → p.pba ≡ pba → p.size ≡ size
-    → FitsDisks (numbers targets) (numbers members) pba size sizes → block_words.generation newest < 0xff000000 → limit ≤ 2 ^ 20 → j ≡ record { entries = []; room = limit } → OnlyReads told
+    → FitsDisks (numbers targets) (numbers members) pba size sizes → block_words.generation newest < 0xff000000 → limit ≤ 2 ^ 20 → j ≡ record { entries = []; room = limit } → TellsOnlyReads told
     → IsStage (run_setting p (laid_at newest) sizes) p sizes c 0 j.entries j.room contents told
 opened p newest c targets members pba size limit sizes j contents told begins one two three four fits generation few empty reads =
     let note : c.round.note ≡ block_words.generation newest = ap (λ (x : Control). x.round.note) begins in
@@ -48,4 +48,5 @@ opened p newest c targets members pba size limit sizes j contents told begins on
       few = omega arith;
       within = omega arith;
       notes = omega (arith, note, generation, few);
+      roomy = tt;
     })

@@ -1,7 +1,7 @@
 -- What a turn leaves of a stage is a stage.
 use Rattle.std.proofs.Common.{◌≡◌, ℕ, ◌+◌, ◌^◌, ◌<◌, ◌≤◌, ◌||◌, nat_lt, nat_le, not, Bool, true, false, List, [], ◌∷◌, ◌++◌, length, suc, Option, Some, None, refl, ap, sym, subst, ◌∙◌, arith, length-append}
 use Rattle.std.proofs.lemmas.Bool.Decides.{nat_tests}
-use Rattle.imsm_base.specs.declared.units.Sector.{Sector}
+use Rattle.units.specs.declared.disk.Sector.{Sector}
 use Rattle.device_log.specs.Log.{Call}
 use Rattle.member_bank.specs.Told.{Keeps}
 use Rattle.array_model.specs.declared.script.OpKind.{OpKind}
@@ -10,6 +10,7 @@ use Rattle.array_model.specs.declared.journal.Entry.{Entry}
 use Rattle.array_model.specs.declared.journal.Event.{Event}
 use Rattle.array_model.specs.Blocks.{Laid}
 use Rattle.array_model.specs.Placement.{Place}
+use Rattle.array_model.specs.Room.{BeginsWithRoom}
 use Rattle.array_model.specs.Script.{kind_at}
 use Rattle.stage_machine.specs.Setting.{Setting}
 use Rattle.stage_machine.specs.Rounds.{Phase, Rest, Going, Step, AtAnchor, AtSync, Ended, begin_with, to_next, step_on}
@@ -23,6 +24,7 @@ use Rattle.control_state.specs.Controls.{listed}
 use Rattle.stage.specs.Runs.{Makes as Made, MakesTrue}
 use Rattle.stage.specs.Stages.{Seen, IsStage, Turns, setting_of}
 use Rattle.stage.proofs.Going.{goes_on}
+use Rattle.stage.proofs.Room.{room_goes}
 
 pub length-stamped : (n : ℕ) (es : List Event) → length (stamped n es) ≡ length es
 length-stamped n [] = refl
@@ -158,10 +160,11 @@ out_rises S c a out is = subst (Rises c) (sym is) (turned_rises S c a c.failed)
 -- A TURN
 
 pub stage_goes : (S : Setting) (p : Plan) (sizes : List ℕ) (c : Control) (made : ℕ) (journal : List Entry) (room : ℕ) (contents : Option (List (List Sector))) (told : Option (List Call)) (a : Action) (out : Out) (counted : ℕ) (entered : List Entry) (held : Option (List (List Sector))) (now : Option (List Call))
-    → IsStage S p sizes c made journal room contents told → made < 2 ^ 48 → length entered ≤ room → MakesTrue S told c made a out counted held now → Keeps contents held → entered ≡ journal ++ stamped counted out.events → IsStage S p sizes out.next counted entered room held now
-stage_goes S p sizes c made journal room contents told a out counted entered held now is few within turn_made keeps entries =
+    → IsStage S p sizes c made journal room contents told → (length journal + 4 ≤ room) × (made < 2 ^ 48) → length entered ≤ room → MakesTrue S told c made a out counted held now → Keeps contents held → entered ≡ journal ++ stamped counted out.events → IsStage S p sizes out.next counted entered room held now
+stage_goes S p sizes c made journal room contents told a out counted entered held now is free within turn_made keeps entries =
     let makes = turn_made.makes in
     let notes = is.notes in
+    let few = free.1 in
     let note : Rises c out = out_rises S c a out makes.is in
     let count = makes.count in
     let long : length entered ≡ length journal + length out.events = ap (λ (xs : List Entry). length xs) entries ∙ length-append journal (stamped counted out.events) ∙ ap (λ (k : ℕ). length journal + k) (length-stamped counted out.events) in
@@ -171,4 +174,5 @@ stage_goes S p sizes c made journal room contents told a out counted entered hel
       few = omega (arith, few, count, one_call made (call_of S c a));
       within = within;
       notes = omega (arith, notes, note, long);
+      roomy = subst (λ (xs : List Entry). BeginsWithRoom room xs) (sym entries) (room_goes S c room journal free.0 counted a out makes.is is.roomy);
     }

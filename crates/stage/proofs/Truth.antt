@@ -1,51 +1,34 @@
 -- A read that the bank says to be true is one of an honest run.
-use Rattle.std.proofs.Common.{◌≡◌, ℕ, ◌==◌, if◌then◌else◌, Bool, true, false, List, [], ◌∷◌, ◌++◌, Option, Some, None, refl, ap, sym, subst, ◌∙◌}
+use Rattle.std.proofs.Common.{◌≡◌, ℕ, List, [], ◌∷◌, ◌++◌, Option, Some, None, refl, ap, sym, subst, ◌∙◌}
 use Rattle.std.specs.Prelude.{slice_get, slice_index_or}
-use Rattle.std.specs.List.{AllByRecursion}
 use Rattle.std.specs.Option.{IsSomeAnd}
 use Rattle.std.proofs.lemmas.Option.{get_or_from_slice_get}
-use Rattle.imsm_base.specs.declared.units.Sector.{Sector}
-use Rattle.device_log.specs.Log.{Call, What, Read, Write, Sync}
-use Rattle.device_log.specs.Cells.{Cell, Stands, resting, cell_at, cell_called, cell_after}
+use Rattle.units.specs.declared.disk.Sector.{Sector}
+use Rattle.device_log.specs.Log.{Call, Read, IsReadCall, OnlyReads}
+use Rattle.device_log.specs.Cells.{Cell, Stands, resting, cell_after}
 use Rattle.array_model.specs.Candidates.{disk_after}
 use Rattle.stage_machine.specs.Setting.{Setting}
-use Rattle.stage_machine.proofs.Cells.{cells_after, cell_append}
-use Rattle.stage.specs.Runs.{IsReading, holding}
-
--- reads leave a place as it is
-cell_read : (p : ℕ) (c : Cell) (what : What) (went : Bool) → IsReading what → cell_at p c what went ≡ c
-cell_read p c (Read place) went reads = refl
-cell_read p c (Write place sectors stored) went reads = absurd reads
-cell_read p c Sync went reads = absurd reads
-
-cell_same : (d p : ℕ) (c : Cell) (call : Call) → IsReading call.what → cell_called d p c call ≡ c
-cell_same d p c call reads = at (call.disk == d)
-  where
-    at : (b : Bool) → (if b then cell_at p c call.what call.went else c) ≡ c
-    at true = cell_read p c call.what call.went reads
-    at false = refl
-
-cell_reads : (d p : ℕ) (c : Cell) (log : List Call) → AllByRecursion (λ (call : Call). IsReading call.what) log → cell_after d p c log ≡ c
-cell_reads d p c [] reads = refl
-cell_reads d p c (call ∷ log) reads = ap (λ (k : Cell). cell_after d p k log) (cell_same d p c call reads.0) ∙ cell_reads d p c log reads.1
+use Rattle.stage_machine.proofs.Cells.{cells_after}
+use Rattle.stage.specs.Runs.{holding}
+use Rattle.device_log.proofs.Cells.{cell_after-append, cell_called-read, cell_after-reads}
 
 -- a read that ends a log, and reads before it, are passed over
-cell_between : (d p : ℕ) (c : Cell) (before log : List Call) (call : Call) → AllByRecursion (λ (x : Call). IsReading x.what) before → IsReading call.what
+cell_between : (d p : ℕ) (c : Cell) (before log : List Call) (call : Call) → OnlyReads before → IsReadCall call.what
     → cell_after d p c ((before ++ log) ++ call ∷ []) ≡ cell_after d p c log
 cell_between d p c before log call first last =
-    cell_append d p c (before ++ log) (call ∷ [])
-    ∙ cell_same d p (cell_after d p c (before ++ log)) call last
-    ∙ cell_append d p c before log
-    ∙ ap (λ (k : Cell). cell_after d p k log) (cell_reads d p c before first)
+    cell_after-append d p c (before ++ log) (call ∷ [])
+    ∙ cell_called-read d p (cell_after d p c (before ++ log)) call last
+    ∙ cell_after-append d p c before log
+    ∙ ap (λ (k : Cell). cell_after d p k log) (cell_after-reads d p c before first)
 
 -- what the bank says to stand there, stands there in the model
 pub stands_true : (S : Setting) (opening : List (List Sector)) (before log all : List Call) (call : Call) (place : ℕ) (s : Sector)
-    → AllByRecursion (λ (x : Call). IsReading x.what) before → call.what ≡ Read place → all ≡ (before ++ log) ++ call ∷ [] → Stands opening all call.disk place s
+    → OnlyReads before → call.what ≡ Read place → all ≡ (before ++ log) ++ call ∷ [] → Stands opening all call.disk place s
     → s ≡ ((disk_after (holding S opening).start.words (holding S opening).start.disks log call.disk).cells place).stood
 stands_true S opening before log all call place s reads read is stands = at (slice_get (slice_index_or opening call.disk []) place) refl stands
   where
-    last : IsReading call.what
-    last = subst IsReading (sym read) tt
+    last : IsReadCall call.what
+    last = subst IsReadCall (sym read) tt
 
     at : (first : Option Sector) → slice_get (slice_index_or opening call.disk []) place ≡ first → IsSomeAnd first (λ (f : Sector). (cell_after call.disk place (resting f) all).stood ≡ s)
         → s ≡ ((disk_after (holding S opening).start.words (holding S opening).start.disks log call.disk).cells place).stood

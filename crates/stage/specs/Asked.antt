@@ -1,6 +1,6 @@
 -- What a round asks of a disk. Source: this project's own.
 use Rattle.std.specs.Prelude.{ℕ, [], ◌∷◌}
-use Rattle.imsm_base.specs.Whole.{anchor_place}
+use Rattle.units.specs.Places.{anchor_place}
 use Rattle.device_log.specs.Log.{What, Write, Sync}
 use Rattle.array_model.specs.Blocks.{Laid}
 use Rattle.control_state.specs.declared.round.Step.{Step}

@@ -1,6 +1,6 @@
 -- How many turns in a row end, and what they spend. Source: this project's own.
 use Rattle.std.specs.Prelude.{◌≡◌, ℕ, ◌+◌, ◌^◌, ◌<◌, ◌≤◌, true, false, length, Some, None, ⊤}
-use Rattle.imsm_base.specs.declared.units.Sector.{Sector}
+use Rattle.units.specs.declared.disk.Sector.{Sector}
 use Rattle.stage_machine.specs.Rounds.{Ended}
 use Rattle.stage_machine.specs.Machine.{Action, Monitors, Asks, Quiets}
 use Rattle.control_state.specs.Still.{is_still}
@@ -30,7 +30,8 @@ abbrev pub MonitorStill : {B : Type 0} → Seen B → Type 0
 MonitorStill {B} a = (x : Ended) × (is_still (setting_of a.given) a.control (Monitors x) ≡ true)
 
 abbrev pub ClientsStill : {B : Type 0} → Seen B → ℕ → Type 0
-ClientsStill {B} a n = (k : ℕ) → k < n → (x : Ended) × (got : Sector) × (is_still (setting_of a.given) a.control (Asks k x got) ≡ true)
+ClientsStill {B} a n =
+    (k : ℕ) → k < n → (x : Ended) × (got : Sector) × (is_still (setting_of a.given) a.control (Asks k x got) ≡ true)
 
 abbrev pub QuietStill : {B : Type 0} → Seen B → Type 0
 QuietStill {B} a = is_still (setting_of a.given) a.control Quiets ≡ true

@@ -1,6 +1,6 @@
 -- How a turn that was made is answered. Source: this project's own.
 use Rattle.std.specs.Prelude.{Option, Some, None}
-use Rattle.imsm_base.specs.declared.units.DiskNo.{DiskNo}
+use Rattle.units.specs.declared.disk.DiskNo.{DiskNo}
 use Rattle.stage.specs.declared.turned.Turned.{Turned}
 use Rattle.stage.specs.declared.turned.Turned.TheVariants.{Moved, Member}
 

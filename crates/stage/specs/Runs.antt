@@ -1,9 +1,8 @@
 -- A run of the machine that leads to what a stage is. Source: this project's own.
-use Rattle.std.specs.Prelude.{◌≡◌, ℕ, ◌+◌, ◌^◌, ◌≤◌, ◌<◌, true, List, [], ◌++◌, length, slice_index, Option, Some, None, ⊤}
-use Rattle.std.specs.List.{AllByRecursion}
-use Rattle.imsm_base.specs.declared.units.Sector.{Sector}
-use Rattle.imsm_base.specs.declared.bounds.TheConstants.{METADATA_SECTORS}
-use Rattle.device_log.specs.Log.{Call, What, Read, Write, Sync}
+use Rattle.std.specs.Prelude.{◌≡◌, ℕ, ◌+◌, ◌^◌, ◌≤◌, ◌<◌, true, List, [], ◌++◌, length, slice_index, Option, Some, None}
+use Rattle.units.specs.declared.disk.Sector.{Sector}
+use Rattle.units.specs.declared.bounds.TheConstants.{METADATA_SECTORS}
+use Rattle.device_log.specs.Log.{Call, Read, OnlyReads}
 use Rattle.member_bank.specs.Told.{Keeps, Logs, Gives}
 use Rattle.array_model.specs.declared.journal.Entry.{Entry}
 use Rattle.array_model.specs.Blocks.{Laid}
@@ -36,7 +35,8 @@ Tells told None now = Keeps told now
 Tells told (Some call) now = Logs told now call
 
 -- the action's turn, at this control state, leaves and enters this, and makes these calls
-pub record Makes (S : Setting) (told : Option (List Call)) (c : Control) (calls : ℕ) (a : Action) (out : Out) (counted : ℕ) (now : Option (List Call)) : Type 0 where
+pub record Makes (S : Setting) (told : Option (List Call)) (c : Control) (calls : ℕ) (a : Action) (out : Out)
+    (counted : ℕ) (now : Option (List Call)) : Type 0 where
   pub is : out ≡ turned S c a
   pub count : counted ≡ calls_after calls (call_of S c a)
   pub logs : Tells told (call_of S c a) now
@@ -44,21 +44,18 @@ pub record Makes (S : Setting) (told : Option (List Call)) (c : Control) (calls 
 -- a read that the action makes, and that goes through, gives what then stands there, as the bank tells it
 abbrev pub Gave : Setting → Control → Action → Option (List (List Sector)) → Option (List Call) → Type 0
 Gave S c a contents now =
-    (call : Call) (place : ℕ) → call_of S c a ≡ Some call → call.what ≡ Read place → call.went ≡ true → Gives contents now call.disk place (got_of a)
+    (call : Call) (place : ℕ) → call_of S c a ≡ Some call → call.what ≡ Read place → call.went ≡ true
+    → Gives contents now call.disk place (got_of a)
 
 -- a turn whose read gave what stood there
-pub record MakesTrue (S : Setting) (told : Option (List Call)) (c : Control) (calls : ℕ) (a : Action) (out : Out) (counted : ℕ) (contents : Option (List (List Sector))) (now : Option (List Call)) : Type 0 where
+pub record MakesTrue (S : Setting) (told : Option (List Call)) (c : Control) (calls : ℕ) (a : Action) (out : Out)
+    (counted : ℕ) (contents : Option (List (List Sector))) (now : Option (List Call)) : Type 0 where
   pub makes : Makes S told c calls a out counted now
   pub gave : Gave S c a contents now
 
-abbrev pub IsReading : What → Type 0
-IsReading (Read place) = ⊤
-IsReading (Write place sectors stored) = ⊥
-IsReading Sync = ⊥
-
 -- where the log is told, it has only reads so far
-abbrev pub OnlyReads : Option (List Call) → Type 0
-OnlyReads told = (all : List Call) → told ≡ Some all → AllByRecursion (λ call. IsReading call.what) all
+abbrev pub TellsOnlyReads : Option (List Call) → Type 0
+TellsOnlyReads told = (all : List Call) → told ≡ Some all → OnlyReads all
 
 -- a log that is told has the calls before the run, and then those of the run
 abbrev pub Agrees : Option (List Call) → List Call → List Call → Type 0
@@ -68,7 +65,7 @@ Agrees told before log = (all : List Call) → told ≡ Some all → all ≡ bef
 -- where it is told, behind reads
 pub record Ran (S : Setting) (c : Control) (calls : ℕ) (journal : List Entry) (told : Option (List Call)) : Type 0 where
   pub before : List Call
-  pub reads : AllByRecursion (λ call. IsReading call.what) before
+  pub reads : OnlyReads before
   pub log : List Call
   pub run : Reached S (record { control = c; calls = calls; log = log; journal = journal })
   pub agrees : Agrees told before log
@@ -80,7 +77,8 @@ holding S opening = record S {
 }
 
 -- the same of a run in which each read gave what stood there, where the bank tells what it held and its log
-pub record RanTrue (S : Setting) (c : Control) (calls : ℕ) (journal : List Entry) (contents : Option (List (List Sector))) (told : Option (List Call)) : Type 0 where
+pub record RanTrue (S : Setting) (c : Control) (calls : ℕ) (journal : List Entry)
+    (contents : Option (List (List Sector))) (told : Option (List Call)) : Type 0 where
   pub ran : Ran S c calls journal told
   pub honest : (opening : List (List Sector)) (all : List Call) → contents ≡ Some opening → told ≡ Some all
       → Honest (holding S opening) (record { control = c; calls = calls; log = ran.log; journal = journal })

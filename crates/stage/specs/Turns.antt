@@ -1,6 +1,6 @@
 -- Turns of a script, one after the other. Source: this project's own.
 use Rattle.std.specs.Prelude.{◌≡◌, ℕ, zero, suc, List, [], ◌∷◌, ◌++◌, ⊤}
-use Rattle.imsm_base.specs.declared.units.Sector.{Sector}
+use Rattle.units.specs.declared.disk.Sector.{Sector}
 use Rattle.array_model.specs.declared.script.Turn.{Turn}
 use Rattle.array_model.specs.declared.script.Turn.TheVariants as turns
 use Rattle.stage_machine.specs.Rounds.{Ended}

@@ -1,7 +1,7 @@
 //! The device calls of a turn.
 ghost use Rattle.std.specs.Prelude.{◌≡◌, ◌+◌, ◌^◌, ◌≤◌, ◌<◌, [], ◌∷◌, length, slice_index, is_ok, IfOk, ℕ, if◌then◌else◌};
-ghost use Rattle.imsm_base.specs.declared.bounds.TheConstants.{METADATA_SECTORS};
-ghost use Rattle.imsm_base.specs.Whole.{anchor_place};
+ghost use Rattle.units.specs.declared.bounds.TheConstants.{METADATA_SECTORS};
+ghost use Rattle.units.specs.Places.{anchor_place};
 ghost use Rattle.device_log.specs.Log.{Call, Read, Write};
 ghost use Rattle.member_bank.specs.Told.{Keeps, Logs, LogsWrite, Gives};
 ghost use Rattle.member_bank.specs.Faults.{HasCause};
@@ -12,14 +12,19 @@ ghost use Rattle.stage.specs.Asked.{asked_of};
 ghost use Rattle.stage.specs.Causes.{Counts, failed_on};
 
 use control_state::{Ask, Book, Plan, Step};
-use imsm_base::{DiskNo, SECTOR_BYTES, Sector};
 use member_bank::{Bank, Failed};
+use units::{DiskNo, SECTOR_BYTES, Sector};
 
 /// Makes a round's call: whether it went through.
 pub fn round_call<B: Bank>(bank: &mut B, next: &Book, ask: Ask) -> bool
     requires disk { ask.disk.0 < length (B.sizes bank.old) }
     requires room { METADATA_SECTORS ≤ slice_index (B.sizes bank.old) ask.disk.0 }
-    ensures logs { (stored : ℕ) × Logs (B.log bank.old) (B.log bank.new) (record { disk = ask.disk.0; what = asked_of (slice_index (B.sizes bank.old) ask.disk.0) (laid_at next.now.anchor) ask.step (if result then 1 else stored); went = result }) }
+    ensures logs { (stored : ℕ) × Logs (B.log bank.old) (B.log bank.new) (record {
+      disk = ask.disk.0;
+      what = asked_of (slice_index (B.sizes bank.old) ask.disk.0) (laid_at next.now.anchor) ask.step
+          (if result then 1 else stored);
+      went = result;
+    }) }
     ensures opening { Keeps (B.opening bank.old) (B.opening bank.new) }
     ensures sizes { B.sizes bank.new ≡ B.sizes bank.old }
     ensures serials { B.serials bank.new ≡ B.serials bank.old }
@@ -39,9 +44,14 @@ pub fn read_row<B: Bank>(bank: &mut B, plan: &Plan, op: u64, disk: DiskNo) -> Re
     requires disk { disk.0 < length (B.sizes bank.old) }
     requires room { plan.now.pba + row_at (plan_setting plan.now) op < slice_index (B.sizes bank.old) disk.0 }
     requires fits { plan.now.pba + row_at (plan_setting plan.now) op < 2 ^ 64 }
-    ensures logs { Logs (B.log bank.old) (B.log bank.new) (record { disk = disk.0; what = Read (plan.now.pba + row_at (plan_setting plan.now) op); went = is_ok result }) }
+    ensures logs { Logs (B.log bank.old) (B.log bank.new) (record {
+      disk = disk.0;
+      what = Read (plan.now.pba + row_at (plan_setting plan.now) op);
+      went = is_ok result;
+    }) }
     ensures opening { Keeps (B.opening bank.old) (B.opening bank.new) }
-    ensures gives { IfOk result (λ s. Gives (B.opening bank.new) (B.log bank.new) disk.0 (plan.now.pba + row_at (plan_setting plan.now) op) s) }
+    ensures gives { IfOk result (λ s. Gives (B.opening bank.new) (B.log bank.new) disk.0
+        (plan.now.pba + row_at (plan_setting plan.now) op) s) }
     ensures sizes { B.sizes bank.new ≡ B.sizes bank.old }
     ensures serials { B.serials bank.new ≡ B.serials bank.old }
     ensures cause { HasCause (B.faults_of bank.old) (B.faults_of bank.new) disk.0 result }
@@ -56,7 +66,12 @@ pub fn write_row<B: Bank>(bank: &mut B, plan: &Plan, op: u64, disk: DiskNo) -> b
     requires disk { disk.0 < length (B.sizes bank.old) }
     requires room { plan.now.pba + row_at (plan_setting plan.now) op < slice_index (B.sizes bank.old) disk.0 }
     requires fits { plan.now.pba + row_at (plan_setting plan.now) op < 2 ^ 64 }
-    ensures logs { (stored : ℕ) × Logs (B.log bank.old) (B.log bank.new) (record { disk = disk.0; what = Write (plan.now.pba + row_at (plan_setting plan.now) op) (value_at (plan_setting plan.now) op ∷ []) (if result then 1 else stored); went = result }) }
+    ensures logs { (stored : ℕ) × Logs (B.log bank.old) (B.log bank.new) (record {
+      disk = disk.0;
+      what = Write (plan.now.pba + row_at (plan_setting plan.now) op) (value_at (plan_setting plan.now) op ∷ [])
+          (if result then 1 else stored);
+      went = result;
+    }) }
     ensures opening { Keeps (B.opening bank.old) (B.opening bank.new) }
     ensures sizes { B.sizes bank.new ≡ B.sizes bank.old }
     ensures serials { B.serials bank.new ≡ B.serials bank.old }

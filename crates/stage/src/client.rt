@@ -1,6 +1,6 @@
 //! What a client does in its turn, but for the entries.
 ghost use Rattle.std.specs.Prelude.{◌≡◌, ◌+◌, ◌^◌, ◌<◌, ℕ, None, []};
-ghost use Rattle.imsm_base.specs.declared.units.Sector.{Sector as SectorBytes};
+ghost use Rattle.units.specs.declared.disk.Sector.{Sector as SectorBytes};
 ghost use Rattle.member_bank.specs.Told.{Keeps};
 ghost use Rattle.array_model.specs.Blocks.{Laid};
 ghost use Rattle.stage_machine.specs.Jobs.{client_at, Busy};
@@ -14,13 +14,17 @@ ghost use Rattle.stage.specs.Causes.{Counts, Grows};
 
 use crate::calls::{read_row, write_row};
 use control_state::{Control, Events, JobStep, Need, Plan, Work};
-use imsm_base::DiskNo;
 use member_bank::{Bank, Failed};
+use units::DiskNo;
 
 /// A client's job stands at its next step.
 fn step_to(control: &mut Control, k: u8, op: u64, step: JobStep) -> Events
     requires { k < 16 }
-    ensures { (p : PlanSeen) → out_of p control.new result ≡ record { next = put_client (control_of p control.old) k (client_at (control_of p control.old).clients k).left (Busy op (step_of (numbers p.members.items) step)); events = [] } }
+    ensures { (p : PlanSeen) → out_of p control.new result ≡ record {
+      next = put_client (control_of p control.old) k (client_at (control_of p control.old).clients k).left
+          (Busy op (step_of (numbers p.members.items) step));
+      events = [];
+    } }
 {
     control.settle(k, Some(Work { op, step }));
     Events::Zero
@@ -47,8 +51,12 @@ fn meet<B: Bank>(
     requires live { control.old.failed ≡ None }
     requires calls { calls.old + 1 < 2 ^ 64 }
     requires fits { FitsBank plan.now (B.sizes bank.old) }
-    requires job { (client_at (control_of plan.now control.old).clients k).job ≡ Busy work.op (step_of (numbers plan.now.members.items) work.step) }
-    ensures made { (newest : Laid) → (x : Ended) × (got : SectorBytes) × MakesTrue (run_setting plan.now newest (B.sizes bank.old)) (B.log bank.old) (control_of plan.now control.old) calls.old (Asks k x got) (out_of plan.now control.new result) calls.new (B.opening bank.new) (B.log bank.new) }
+    requires job { (client_at (control_of plan.now control.old).clients k).job
+        ≡ Busy work.op (step_of (numbers plan.now.members.items) work.step) }
+    ensures made { (newest : Laid) → (x : Ended) × (got : SectorBytes)
+        × MakesTrue (run_setting plan.now newest (B.sizes bank.old)) (B.log bank.old)
+        (control_of plan.now control.old) calls.old (Asks k x got) (out_of plan.now control.new result) calls.new
+        (B.opening bank.new) (B.log bank.new) }
     ensures opening { Keeps (B.opening bank.old) (B.opening bank.new) }
     ensures sizes { B.sizes bank.new ≡ B.sizes bank.old }
     ensures serials { B.serials bank.new ≡ B.serials bank.old }
@@ -95,7 +103,10 @@ pub fn client_part<B: Bank>(
     requires live { control.old.failed ≡ None }
     requires calls { calls.old + 1 < 2 ^ 64 }
     requires fits { FitsBank plan.now (B.sizes bank.old) }
-    ensures made { (newest : Laid) → (x : Ended) × (got : SectorBytes) × MakesTrue (run_setting plan.now newest (B.sizes bank.old)) (B.log bank.old) (control_of plan.now control.old) calls.old (Asks k x got) (out_of plan.now control.new result) calls.new (B.opening bank.new) (B.log bank.new) }
+    ensures made { (newest : Laid) → (x : Ended) × (got : SectorBytes)
+        × MakesTrue (run_setting plan.now newest (B.sizes bank.old)) (B.log bank.old)
+        (control_of plan.now control.old) calls.old (Asks k x got) (out_of plan.now control.new result) calls.new
+        (B.opening bank.new) (B.log bank.new) }
     ensures opening { Keeps (B.opening bank.old) (B.opening bank.new) }
     ensures sizes { B.sizes bank.new ≡ B.sizes bank.old }
     ensures serials { B.serials bank.new ≡ B.serials bank.old }

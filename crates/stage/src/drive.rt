@@ -11,8 +11,8 @@ use crate::stage::Stage;
 use crate::turned::Turned;
 use array_model::Turn;
 use control_state::CLIENTS;
-use imsm_base::VolNo;
 use member_bank::Bank;
+use units::VolNo;
 
 impl<B: Bank> Stage<B> {
     /// A turn of a script. The manager and a sync worker have nothing to do yet.

@@ -1,6 +1,6 @@
 //! How several turns in a row end.
 
-use imsm_base::DiskNo;
+use units::DiskNo;
 
 /// How a list of turns ended: all were made; the journal is full; or a call on this disk failed.
 #[derive(Clone, Copy, Debug, PartialEq, Eq)]

@@ -1,6 +1,6 @@
 //! What the monitor does in its turn, but for the entries.
 ghost use Rattle.std.specs.Prelude.{◌≡◌, ◌+◌, ◌^◌, ◌<◌, ℕ, None};
-ghost use Rattle.imsm_base.specs.declared.units.Sector.{Sector as SectorBytes};
+ghost use Rattle.units.specs.declared.disk.Sector.{Sector as SectorBytes};
 ghost use Rattle.member_bank.specs.Told.{Keeps};
 ghost use Rattle.array_model.specs.Blocks.{Laid};
 ghost use Rattle.stage_machine.specs.Rounds.{Ended};
@@ -24,7 +24,10 @@ pub fn monitor_part<B: Bank>(
     requires calls { calls.old + 1 < 2 ^ 64 }
     requires room { control.old.round.note + 1 < 2 ^ 32 }
     requires fits { FitsBank plan.now (B.sizes bank.old) }
-    ensures made { (newest : Laid) → (x : Ended) × Makes (run_setting plan.now newest (B.sizes bank.old)) (B.log bank.old) (control_of plan.now control.old) calls.old (Monitors x) (out_of plan.now control.new result) calls.new (B.log bank.new) }
+    ensures made { (newest : Laid) → (x : Ended)
+        × Makes (run_setting plan.now newest (B.sizes bank.old)) (B.log bank.old)
+        (control_of plan.now control.old) calls.old (Monitors x) (out_of plan.now control.new result) calls.new
+        (B.log bank.new) }
     ensures opening { Keeps (B.opening bank.old) (B.opening bank.new) }
     ensures sizes { B.sizes bank.new ≡ B.sizes bank.old }
     ensures serials { B.serials bank.new ≡ B.serials bank.old }

@@ -9,10 +9,10 @@ ghost use Rattle.control_state.specs.Controls.{control_of};
 use array_model::{Op, Script};
 use arrayvec::ArrayVec;
 use control_state::{Book, Control, Plan};
-use imsm_base::{DiskNo, MAX_DISKS, Sector};
 use imsm_codec::MpbRef;
 use std::alloc::Global;
 use thiserror::Error;
+use units::{DiskNo, MAX_DISKS, Sector};
 
 /// Why a stage wasn't opened.
 #[derive(Clone, Copy, Debug, PartialEq, Eq, Error)]
@@ -50,7 +50,9 @@ pub(crate) fn plan_of(
     opening: Opening<'_>,
     script: &Script,
 ) -> Result<Plan, StageFault>
-    ensures { IfOk result (λ p. (p.ops.items ≡ script.now.ops) × (p.targets.items ≡ opening.entry.targets.items) × (p.members.items ≡ opening.entry.members.items) × (p.pba ≡ opening.entry.pba) × (p.size ≡ opening.entry.size)) }
+    ensures { IfOk result (λ p. (p.ops.items ≡ script.now.ops) × (p.targets.items ≡ opening.entry.targets.items)
+        × (p.members.items ≡ opening.entry.members.items) × (p.pba ≡ opening.entry.pba)
+        × (p.size ≡ opening.entry.size)) }
 {
     let ops = ops_of(alloc, script)?;
     Ok(Plan {

@@ -1,18 +1,19 @@
 //! A stage over a bank: each of its turns is one of the machine.
 ghost use Rattle.std.specs.Prelude.{◌≡◌, ◌+◌, ◌<◌, ◌≤◌, IfOk, IfErr, ◌⊎◌, ◌++◌, ℕ, length, nat_lt, nat_le, ◌||◌, ◌^◌};
-ghost use Rattle.imsm_base.specs.declared.units.Sector.{Sector as SectorBytes};
+ghost use Rattle.units.specs.declared.disk.Sector.{Sector as SectorBytes};
 ghost use Rattle.member_bank.specs.Told.{Keeps};
 ghost use Rattle.array_model.specs.Renewal.{FitsGeneration};
+ghost use Rattle.array_model.specs.Room.{BeginsWithRoom};
 ghost use Rattle.stage_machine.specs.Rounds.{Ended};
 ghost use Rattle.stage_machine.specs.Machine.{Monitors, Asks, Quiets, stamped};
 ghost use Rattle.control_state.specs.Controls.{listed};
 ghost use Rattle.stage.specs.Stages.{Answered, setting_of};
 ghost use Rattle.stage.specs.Ends.{answer_of};
 ghost use Rattle.imsm_codec.specs.Mpb.{block_bytes};
-ghost use Rattle.block_words.specs.Reading.{block_words};
+ghost use Rattle.block_meaning.specs.Reading.{block_words};
 ghost use Rattle.control_state.specs.Book.{IsBook, IsBlockOf};
 ghost use Rattle.control_state.specs.Seen.{numbers};
-ghost use Rattle.stage.specs.Runs.{Ran, RanTrue, FitsDisks, OnlyReads};
+ghost use Rattle.stage.specs.Runs.{Ran, RanTrue, FitsDisks, TellsOnlyReads};
 ghost use Rattle.stage.specs.Opens.{given_by, IsOpened};
 ghost use Rattle.stage.specs.Causes.{KeepsBank};
 
@@ -22,10 +23,10 @@ use crate::open::{Opening, StageFault, control_at, plan_of};
 use crate::turned::Turned;
 use array_model::{Entry, Journal, Script};
 use control_state::{Control, Events, Plan};
-use imsm_base::{DiskNo, Sector};
 use member_bank::Bank;
 use std::alloc::Global;
 use std::marker::Model;
+use units::{DiskNo, Sector};
 
 /// As many calls a run makes at most.
 pub const MAX_CALLS: u64 = 1 << 48;
@@ -50,9 +51,17 @@ impl<B: Bank> Model for Stage<B> {
 
     ghost Value = { Seen B };
 
-    ghost view = { λ s. record { bank = s.bank; given = given_of s.plan (laid_at s.newest) (B.sizes s.bank); control = control_of s.plan s.control; calls = s.calls; journal = s.journal.entries; room = s.journal.room } };
+    ghost view = { λ s. record {
+      bank = s.bank;
+      given = given_of s.plan (laid_at s.newest) (B.sizes s.bank);
+      control = control_of s.plan s.control;
+      calls = s.calls;
+      journal = s.journal.entries;
+      room = s.journal.room;
+    } };
 
-    ghost invariant = { λ s. IsStage (run_setting s.plan (laid_at s.newest) (B.sizes s.bank)) s.plan (B.sizes s.bank) (control_of s.plan s.control) s.calls s.journal.entries s.journal.room (B.opening s.bank) (B.log s.bank) };
+    ghost invariant = { λ s. IsStage (run_setting s.plan (laid_at s.newest) (B.sizes s.bank)) s.plan (B.sizes s.bank)
+        (control_of s.plan s.control) s.calls s.journal.entries s.journal.room (B.opening s.bank) (B.log s.bank) };
 }
 
 /// Takes down what a turn enters.
@@ -104,8 +113,9 @@ impl<B: Bank> Stage<B> {
         requires newest { IsBlockOf opening.newest (block_bytes opening.block) }
         requires generation { block_words.generation opening.newest < 0xff000000 }
         requires limit { limit ≤ 2 ^ 20 }
-        requires disks { FitsDisks (numbers opening.targets.items) (numbers opening.members.items) opening.pba opening.size (B.sizes bank) }
-        requires reads { OnlyReads (B.log bank) }
+        requires disks { FitsDisks (numbers opening.targets.items) (numbers opening.members.items)
+            opening.pba opening.size (B.sizes bank) }
+        requires reads { TellsOnlyReads (B.log bank) }
         ensures ok { IfOk result (λ s. IsOpened s bank (given_by opening.entry script.now (B.sizes bank)) limit) }
         ensures err { IfErr result (λ e. e.0 ≡ bank) }
     {
@@ -203,12 +213,14 @@ impl<B: Bank> Stage<B> {
     }
 
     /// The bank and the journal, to which a run of the machine has led, in which each read gave what stood there. Its
-    /// generations fit their four bytes.
+    /// generations fit their four bytes. Each turn that entered something began with room for four entries.
     pub fn close(self) -> (B, Journal)
         ensures bank { (result.0 ≡ self.bank) × (result.1.entries ≡ self.journal) }
         ensures ran { Ran (setting_of self.given) self.control self.calls self.journal (B.log self.bank) }
-        ensures honest { RanTrue (setting_of self.given) self.control self.calls self.journal (B.opening self.bank) (B.log self.bank) }
+        ensures honest { RanTrue (setting_of self.given) self.control self.calls self.journal
+            (B.opening self.bank) (B.log self.bank) }
         ensures fits { FitsGeneration self.control.round.note }
+        ensures room { BeginsWithRoom self.room self.journal }
     {
         let Stage { bank, journal, .. } = self;
         (bank, journal)

@@ -1,6 +1,6 @@
 //! How a turn is answered.
 
-use imsm_base::DiskNo;
+use units::DiskNo;
 
 /// What a turn did: it moved the run; its actor had nothing to do; the journal is full, or too many calls were made; or
 /// a call on this disk failed, in this turn or before, which ends the run.

@@ -1,8 +1,8 @@
 -- A setting with other disks, another opening and another shape of the volume has the same runs, as long as the disks have
 -- the same sizes, and sectors the same places.
 use Rattle.std.proofs.Common.{◌≡◌, ℕ, ◌+◌, ◌==◌, ◌&&◌, ◌||◌, not, Bool, true, false, List, [], ◌∷◌, Option, Some, None, refl, ap, ◌∙◌}
-use Rattle.imsm_base.specs.Whole.{anchor_place}
-use Rattle.imsm_base.specs.declared.units.Sector.{Sector}
+use Rattle.units.specs.Places.{anchor_place}
+use Rattle.units.specs.declared.disk.Sector.{Sector}
 use Rattle.device_log.specs.Log.{Read, Write}
 use Rattle.array_model.specs.declared.script.Ask.{Ask}
 use Rattle.array_model.specs.declared.script.OpKind.{OpKind}

@@ -3,7 +3,7 @@ use Rattle.std.proofs.Common.{◌≡◌, ℕ, ◌+◌, Bool, true, false, List, 
 use Rattle.std.specs.List.{AllByRecursion}
 use Rattle.std.proofs.lemmas.Bool.Decides.{nat_tests}
 use Rattle.std.proofs.lemmas.List.{append-nil, take_all, drop_at}
-use Rattle.imsm_base.specs.declared.units.Sector.{Sector}
+use Rattle.units.specs.declared.disk.Sector.{Sector}
 use Rattle.device_log.specs.Log.{Call}
 use Rattle.array_model.specs.declared.journal.Entry.{Entry}
 use Rattle.array_model.specs.Script.{Asked}
@@ -11,10 +11,11 @@ use Rattle.array_model.specs.Blocks.{Laid, SlotWords}
 use Rattle.array_model.specs.Moments.{AllBelow}
 use Rattle.array_model.specs.Rounds.{IsFinished, HasFinished, is_lost}
 use Rattle.array_model.specs.Renewal.{FitsGeneration}
-use Rattle.block_words.proofs.Renewal.{renewal}
+use Rattle.block_meaning.specs.Renewed.{renewed}
+use Rattle.block_meaning.proofs.Renewal.{renewal}
 use Rattle.stage_machine.specs.Setting.{Setting}
 use Rattle.stage_machine.specs.Opens.{AsksFirst, StandsOnAll, IsFirstVolume}
-use Rattle.array_model.specs.AnswerLaw.{AnswerLaw, IsWhole}
+use Rattle.array_model.specs.AnswerLaw.{AnswerLaw, IsVolumeWhole}
 use Rattle.array_model.specs.FailureLaw.{EndsAtFailure}
 use Rattle.array_model.specs.Rests.{HasComeToRest}
 use Rattle.array_model.proofs.Journals.{all_map}
@@ -28,6 +29,8 @@ use Rattle.gate_law.proofs.Gate.{gate_reached}
 use Rattle.failure_law.proofs.Failures.{failures_reached}
 use Rattle.round_law.proofs.Law.{round_reached, last_reached}
 use Rattle.round_law.proofs.Containers.{containers_reached}
+use Rattle.round_law.proofs.Endings.{endings_reached}
+use Rattle.round_law.proofs.Renewed.{renewed_reached}
 use Rattle.answer_law.proofs.Order.{in_order}
 use Rattle.answer_law.proofs.JobKinds.{reads_in_sync}
 use Rattle.answer_law.proofs.Runs.{answers_honest}
@@ -74,10 +77,12 @@ module _ (o : Opened) (asked : Asked) (opens : IsOpening o) (asks : AsksFirst (s
     short = short_reached T asks renewal on w fits r;
   }
 
-  pub log_of : (w : World) → FitsGeneration w.control.round.note → Reached T w → KeepsLog (start_of o) asked w.log w.journal
+  pub log_of : (w : World) → FitsGeneration w.control.round.note → Reached T w → KeepsLog renewed (start_of o) asked w.log w.journal
   log_of w fits r = record {
     rounds = round_reached T renewal on volume w fits r;
     blocks = containers_reached T renewal on volume w fits r;
+    endings = endings_reached T renewal on volume w fits r;
+    renewed = renewed_reached T asks renewal on volume w fits r;
     gate = gate_reached T asks renewal on volume w fits r;
     failures = failures_reached T renewal on volume w fits r;
     reads = reads_in_sync T on volume w.log w.journal (ours_reached T w r) (fine_reached T renewal on volume w fits r);
@@ -96,13 +101,13 @@ module _ (o : Opened) (asked : Asked) (opens : IsOpening o) (asks : AsksFirst (s
       one.one m finished ∙ sym (one.one w.control.round.last (last_reached T renewal on volume w fits r))
 
   -- the volume is whole in the last finished round
-  whole_in : (w : World) → FitsGeneration w.control.round.note → Reached T w → (m : Laid) → IsFinished T.start w.log w.journal m → (v : ℕ) → T.start.is_started v ≡ true → IsWhole T.start w.journal m v
+  whole_in : (w : World) → FitsGeneration w.control.round.note → Reached T w → (m : Laid) → IsFinished T.start w.log w.journal m → (v : ℕ) → T.start.is_started v ≡ true → IsVolumeWhole T.start w.journal m v
   whole_in w fits r m finished v started =
       let same = finished_good T volume on w.log w.journal m (fine_reached T renewal on volume w fits r) finished in
       let first : 0 ≡ v = grind (arith, nat_tests, started) in
       let sound : (s : SlotWords) → s.is_in_sync ≡ true → (s.is_in_sync ≡ true) × (is_lost T.start.disks s.serial w.journal ≡ false) =
       λ s in_sync. (in_sync, none_lost T.start.disks s.serial w.journal (ours_reached T w r)) in
-      subst (λ n. IsWhole T.start w.journal m n) first (record {
+      subst (λ n. IsVolumeWhole T.start w.journal m n) first (record {
         slots = subst (AllByRecursion (λ s. (s.is_in_sync ≡ true) × (is_lost T.start.disks s.serial w.journal ≡ false))) (sym (same.slots 0))
             (all_map (λ s. s.is_in_sync ≡ true) (λ s. (s.is_in_sync ≡ true) × (is_lost T.start.disks s.serial w.journal ≡ false)) sound (T.start.words.slots T.start.newest 0) (slots-in-sync o opens));
         idle = same.pass 0 ∙ no-pass o opens;
@@ -128,7 +133,7 @@ module _ (o : Opened) (asked : Asked) (opens : IsOpening o) (asks : AsksFirst (s
 -- HOW THE RUN ENDED
 
 -- two ways to cut a list with the same number behind
-same_behind : {X : Type 0} (xs ys zs ws : List X) → xs ++ ys ≡ zs ++ ws → length ys ≡ length ws → ys ≡ ws
+pub same_behind : {X : Type 0} (xs ys zs ws : List X) → xs ++ ys ≡ zs ++ ws → length ys ≡ length ws → ys ≡ ws
 same_behind xs ys zs ws is count =
     let sum : length xs + length ys ≡ length zs + length ws = sym (length-append xs ys) ∙ ap (λ l. length l) is ∙ length-append zs ws in
     let front : length zs ≡ length xs = omega (arith, sum, count) in
@@ -136,11 +141,11 @@ same_behind xs ys zs ws is count =
 
 -- the calls of a run, as they stand in the log, end at the one that failed
 pub ends_at : (S : Setting) (c : Control) (calls : ℕ) (journal : List Entry) (told : Option (List Call)) → Ran S c calls journal told
-    → (all log : List Call) → told ≡ Some all → IsSince calls all log → EndsAtFailure log c.failed
+    → (all log : List Call) → told ≡ Some all → IsSince calls all log → EndsAtFailure log journal c.failed
 ends_at S c calls journal told ran all log known since =
     let count = (counted_reached S (record { control = c; calls = calls; log = ran.log; journal = journal }) ran.run).calls in
     let same : ran.log ≡ log = same_behind ran.before ran.log since.before log (sym (ran.agrees all known) ∙ since.joined) (sym count ∙ sym since.counted) in
-    subst (λ l. EndsAtFailure l c.failed) same (ends_reached S (record { control = c; calls = calls; log = ran.log; journal = journal }) ran.run)
+    subst (λ l. EndsAtFailure l journal c.failed) same (ends_reached S (record { control = c; calls = calls; log = ran.log; journal = journal }) ran.run)
 
 -- THE STAGE'S RUN
 

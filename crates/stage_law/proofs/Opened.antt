@@ -1,7 +1,7 @@
 -- A stage over disks that hold a container runs as the machine does over these disks.
 use Rattle.std.proofs.Common.{◌≡◌, ℕ, Bool, false, if◌then◌else◌, nat_lt, [], Some, None, refl, ap, sym}
-use Rattle.imsm_base.specs.declared.units.Sector.{Sector}
-use Rattle.imsm_base.specs.declared.units.Level.TheVariants.{One}
+use Rattle.units.specs.declared.disk.Sector.{Sector}
+use Rattle.units.specs.declared.volume.Level.TheVariants.{One}
 use Rattle.array_model.specs.Script.{Asked}
 use Rattle.array_model.specs.Placement.{Shape, place_by, place_of}
 use Rattle.array_model.specs.Start.{disks_of}

@@ -1,12 +1,12 @@
 -- A run over a bank that held a container of the first form when the run began. Source: this project's own.
 use Rattle.std.specs.Prelude.{◌≡◌, ℕ, Bool, true, List, [], false}
 use Rattle.std.specs.List.{AllByRecursion, list_all}
-use Rattle.imsm_base.specs.declared.units.Sector.{Sector}
+use Rattle.units.specs.declared.disk.Sector.{Sector}
 use Rattle.array_model.specs.declared.script.Op.{Op}
 use Rattle.array_model.specs.Script.{Asked}
 use Rattle.array_model.specs.Placement.{Shape}
 use Rattle.array_model.specs.Start.{Start}
-use Rattle.block_words.specs.Reading.{block_words}
+use Rattle.block_meaning.specs.Reading.{block_words}
 use Rattle.rest_law.specs.Rest.{is_whole}
 use Rattle.first_opening.specs.Opened.{Opened, IsOpening, newest_of, targets_of, members_of, setting_of, is_first_op}
 use Rattle.first_opening.specs.Copies.{first_copy, differs}

@@ -1,4 +1,4 @@
-use Rattle.block_words.proofs.Renewal.{renewal}
+use Rattle.block_meaning.proofs.Renewal.{renewal}
 use Rattle.first_opening.proofs.Found.{renewable, round-edits}
 use Rattle.first_opening.proofs.each_round_renews.Goals as goal
 

@@ -2,25 +2,23 @@ use Rattle.std.proofs.Common.{◌≡◌, ◌≢◌, ℕ, zero, suc, ◌+◌, ◌
 use Rattle.std.specs.List.{list_all}
 use Rattle.std.specs.Option.{IsSomeAnd}
 use Rattle.std.proofs.lemmas.List.{length-append, length-replicate, take_at}
-use Rattle.imsm_base.specs.declared.units.Sector.{Sector}
+use Rattle.units.specs.declared.disk.Sector.{Sector}
 use Rattle.imsm_base.specs.FirstForm.{IsFirstForm}
 use Rattle.imsm_base.specs.Layout.{serial_of}
 use Rattle.imsm_base.specs.Parts.{block_in}
 use Rattle.imsm_base.specs.Vector.{mirror_bytes}
-use Rattle.imsm_base.specs.Whole.{IsWhole, IsWholeBlock, IsWholeDisk, anchor_place}
+use Rattle.imsm_base.specs.Whole.{IsWhole, IsWholeBlock, IsWholeDisk}
+use Rattle.units.specs.Places.{anchor_place}
 use Rattle.imsm_base.proofs.Joined.{block_in-spelled}
 use Rattle.imsm_codec.specs.Given.{size_in, given_block}
-use Rattle.array_model.specs.Meaning.{has_serial}
+use Rattle.block_meaning.specs.Meaning.{has_serial}
 use Rattle.first_opening.specs.Opened.{serial_at, block_of}
 use Rattle.first_opening.specs.Worked.{zeros, mirror_anchor, mirror_disk, serial_of_letter, mirror_opened}
 use Rattle.first_opening.proofs.the_worked_bank_opens.Goals as goal
+use Rattle.first_opening.proofs.Numbers.{slice_get-behind}
 
 other_head : (x y : ℕ) (xs ys : List ℕ) → (x ≡ y → ⊥) → x ∷ xs ≢ y ∷ ys
 other_head x y xs ys other e = other (ap (λ (zs : List ℕ). get_or zs 0 0) e)
-
-behind : {X : Type 0} (n : ℕ) (z x : X) (xs : List X) → slice_get (replicate n z ++ x ∷ xs) n ≡ Some x
-behind zero z x xs = refl
-behind (suc n) z x xs = behind n z x xs
 
 disk-size : (rest : List ℕ) → length (mirror_disk rest) ≡ 4096
 disk-size rest = length-append (replicate 4094 zeros) (mirror_anchor rest ∷ zeros ∷ []) ∙ ap (λ (n : ℕ). n + 2) (length-replicate 4094 zeros)
@@ -47,7 +45,7 @@ given : (rest : List ℕ) → given_block (mirror_bytes ++ rest) ≡ mirror_byte
 given rest = take_at mirror_bytes rest (size_in (mirror_bytes ++ rest)) refl
 
 stands : (rest : List ℕ) → slice_get (mirror_disk rest) 4094 ≡ Some (mirror_anchor rest)
-stands rest = behind 4094 zeros (mirror_anchor rest) (zeros ∷ [])
+stands rest = slice_get-behind 4094 zeros (mirror_anchor rest) (zeros ∷ [])
 
 -- each anchor begins with the block of the first
 begins : (rest other : List ℕ) → IsSomeAnd (slice_get (mirror_disk other) 4094) (λ s. given_block s.0 ≡ given_block (mirror_anchor rest).0)

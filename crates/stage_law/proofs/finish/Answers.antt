@@ -34,3 +34,6 @@ pub returns-clause-works : goal.returns-clause-works
 returns-clause-works g c o asked run actor waits told =
     let s = c.args.stage in
     works_on o asked s.given run s.control s.calls s.journal (g.B.Bank.opening s.bank) (g.B.Bank.log s.bank) c.close.ensures.fits c.close.ensures.honest actor waits told
+
+pub returns-clause-room : goal.returns-clause-room
+returns-clause-room g c = c.close.ensures.room

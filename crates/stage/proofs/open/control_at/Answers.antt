@@ -1,5 +1,5 @@
 use Rattle.std.proofs.Common.{ap, ◌∙◌}
-use Rattle.imsm_base.specs.declared.units.Sector.{Sector}
+use Rattle.units.specs.declared.disk.Sector.{Sector}
 use Rattle.control_state.specs.Book.{laid_at}
 use Rattle.control_state.specs.Begins.{begins_at}
 use Rattle.stage.proofs.open.control_at.Goals as goal

@@ -1,5 +1,5 @@
 use Rattle.std.proofs.Common.{◌+◌, sym, ap, ◌∙◌}
-use Rattle.block_words.specs.Renewed.{renewed}
+use Rattle.block_meaning.specs.Renewed.{renewed}
 use Rattle.stage_machine.specs.Machine.{moved}
 use Rattle.stage_machine.specs.States.{next_dirty}
 use Rattle.control_state.specs.declared.state.Move.{Move}

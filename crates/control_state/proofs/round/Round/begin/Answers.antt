@@ -1,7 +1,7 @@
 use Rattle.std.proofs.Common.{◌+◌, [], ◌∷◌, sym, ap, ◌∙◌}
 use Rattle.array_model.specs.declared.journal.Event.TheVariants.{Begin}
 use Rattle.array_model.specs.Blocks.{Laid}
-use Rattle.block_words.specs.Renewed.{renewed}
+use Rattle.block_meaning.specs.Renewed.{renewed}
 use Rattle.stage_machine.specs.Rounds as machine
 use Rattle.control_state.specs.Book.{laid_at}
 use Rattle.control_state.specs.Rounds.{round_of}

@@ -1,5 +1,6 @@
 use Rattle.std.proofs.Common.{subst, arith}
 use Rattle.array_model.specs.Renewal.{FitsGeneration}
+use Rattle.array_model.specs.Room.{BeginsWithRoom}
 use Rattle.stage.specs.Runs.{Ran, RanTrue}
 use Rattle.stage.specs.Stages.{Seen, setting_of}
 use Rattle.stage.proofs.stage.Stage.close.Goals as goal
@@ -15,3 +16,6 @@ returns-clause-fits g c =
     let notes = c.self.invariant.notes in
     let within = c.self.invariant.within in
     subst (λ (v : Seen g.row.B.Denot). FitsGeneration v.control.round.note) c.self.view_is (omega (arith, notes, within))
+
+pub returns-clause-room : goal.returns-clause-room
+returns-clause-room g c = subst (λ (v : Seen g.row.B.Denot). BeginsWithRoom v.room v.journal) c.self.view_is c.self.invariant.roomy

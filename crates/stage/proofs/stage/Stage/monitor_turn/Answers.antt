@@ -21,14 +21,14 @@ invariant_of-self g c =
     let told = g.B.Bank.log c.self.inside.bank in
     let C = control_of p c.self.inside.control in
     let made = c.self.inside.calls in
-    let few = (not_full c.self.inside.journal.room _ made (sym c.is_full.ensures ∙ c.if-is_full.false)).1 in
+    let free = not_full c.self.inside.journal.room _ made (sym c.is_full.ensures ∙ c.if-is_full.false) in
     let out = out_of p c.monitor_part-events.new.control c.monitor_part-events.result in
     let held = g.B.Bank.opening c.monitor_part-events.new.bank in
     let now = g.B.Bank.log c.monitor_part-events.new.bank in
     let m = c.monitor_part-events.ensures.made newest in
     subst (λ (sz : List ℕ). IsStage (run_setting p newest sz) p sz out.next c.monitor_part-events.new.calls c.enter.new.journal.entries c.enter.new.journal.room held now) (sym c.monitor_part-events.ensures.sizes)
     (subst (λ (j : JournalState). IsStage (run_setting p newest sizes) p sizes out.next c.monitor_part-events.new.calls j.entries j.room held now) (sym c.enter.ensures)
-    (stage_goes (run_setting p newest sizes) p sizes C made c.self.inside.journal.entries c.self.inside.journal.room contents told (Monitors m.0) out c.monitor_part-events.new.calls _ held now c.self.invariant few
+    (stage_goes (run_setting p newest sizes) p sizes C made c.self.inside.journal.entries c.self.inside.journal.room contents told (Monitors m.0) out c.monitor_part-events.new.calls _ held now c.self.invariant free
     (entered_within c.self.inside.journal.room made c.self.inside.journal.entries c.monitor_part-events.new.calls c.monitor_part-events.result (sym c.is_full.ensures ∙ c.if-is_full.false))
     (monitor_true (run_setting p newest sizes) told C made m.0 out c.monitor_part-events.new.calls held now m.1) c.monitor_part-events.ensures.opening refl))
 
