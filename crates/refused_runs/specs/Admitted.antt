@@ -5,7 +5,8 @@ use Rattle.array_model.specs.declared.journal.Entry.{Entry}
 use Rattle.array_model.specs.FailureLaw.{EndsAtFailure}
 use Rattle.array_model.specs.AnswerLaw.{AnswerLaw}
 use Rattle.array_model.specs.Rests.{HasComeToRest}
-use Rattle.array_model.specs.Small.{small_start, the_script, write_and_read}
+use Rattle.array_model.specs.Room.{BeginsWithRoom}
+use Rattle.array_model.specs.Small.{small_start, small_renew, the_script, write_and_read}
 use Rattle.stage.specs.declared.ends.DriveEnd.{DriveEnd}
 use Rattle.stage.specs.declared.ends.DriveEnd.TheVariants.{Over, Full, Member}
 use Rattle.stage_law.specs.Laws.{KeepsForm, KeepsLog, IsLeftClean}
@@ -14,27 +15,28 @@ use Rattle.stage_law.specs.Laws.{KeepsForm, KeepsLog, IsLeftClean}
 pub record EndsAtRest (log : List Call) (journal : List Entry) : Type 0 where
   pub rests : HasComeToRest small_start write_and_read journal
   pub clean : IsLeftClean small_start log journal
-  pub went : EndsAtFailure log None
+  pub went : EndsAtFailure log journal None
 
 -- the journal has fewer than four entries left, or 2 ^ 48 calls were made; the run hasn't come to rest, and no call
 -- failed
 pub record EndsForRoom (limit calls : ℕ) (log : List Call) (journal : List Entry) : Type 0 where
   pub spent : (limit < length journal + 4) ⊎ (2 ^ 48 ≤ calls)
   pub works : HasComeToRest small_start write_and_read journal → ⊥
-  pub went : EndsAtFailure log None
+  pub went : EndsAtFailure log journal None
 
 -- the cause of a run's end
 abbrev pub HasEnded : (limit calls : ℕ) → List Call → List Entry → DriveEnd → Type 0
 HasEnded limit calls log journal Over = EndsAtRest log journal
 HasEnded limit calls log journal Full = EndsForRoom limit calls log journal
-HasEnded limit calls log journal (Member d) = EndsAtFailure log (Some d.0)
+HasEnded limit calls log journal (Member d) = EndsAtFailure log journal (Some d.0)
 
 -- the promise: a run with room for so many entries may make these calls, leave this journal and end so
 pub record Admits (limit calls : ℕ) (log : List Call) (journal : List Entry) (ended : DriveEnd) : Type 0 where
   pub form : KeepsForm small_start the_script calls journal
   pub counted : length log ≡ calls
-  pub kept : KeepsLog small_start the_script log journal
+  pub kept : KeepsLog small_renew small_start the_script log journal
   pub answers : AnswerLaw small_start the_script log journal
+  pub room : BeginsWithRoom limit journal
   pub ends : HasEnded limit calls log journal ended
 
 -- it is not admitted with this end, whatever the room and the count of calls

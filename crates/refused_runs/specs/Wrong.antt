@@ -1,13 +1,15 @@
 -- Runs that a careless or a lazy stage would leave: each is the worked run of one write and one read with something
 -- wrong. Source: this project's own.
 use Rattle.std.specs.Prelude.{ℕ, ◌+◌, List, [], ◌∷◌, ◌++◌, map, take, drop, slice_set}
+use Rattle.units.specs.declared.disk.Sector.{Sector}
 use Rattle.device_log.specs.Log.{Call}
+use Rattle.array_model.specs.declared.script.OpKind.TheVariants.{Write as OpWrite}
 use Rattle.array_model.specs.declared.journal.Entry.{Entry}
 use Rattle.array_model.specs.declared.journal.Event.TheVariants.{Begin, End, Ready, Submit, Pending, Active, Ack, Idle, Clean, Fault}
 use Rattle.array_model.specs.declared.journal.Answer.{Answer}
 use Rattle.array_model.specs.declared.journal.Answer.TheVariants.{Done, Value}
-use Rattle.array_model.specs.Script.{sector_of}
-use Rattle.array_model.specs.Small.{the_volume, the_value, block, puts, syncs, gets, fails, at, worked_log, worked_journal}
+use Rattle.array_model.specs.Script.{Asked, sector_of}
+use Rattle.array_model.specs.Small.{the_volume, the_value, block, puts, syncs, gets, fails, at, worked_log, worked_journal, early_journal}
 
 -- a list without its element number k
 abbrev pub without : {X : Type 0} → ℕ → List X → List X
@@ -49,6 +51,13 @@ undirtied_log = slice_set (slice_set worked_log 4 (puts 0 4094 (block 3 0 0))) 6
 -- the last sync, of the round that records the volume as clean, fails
 abbrev pub unrecorded_log : List Call
 unrecorded_log = slice_set worked_log 16 (fails (syncs 1))
+
+-- the journal breaks off behind an `active` that came before its round had ended
+abbrev pub going_log : List Call
+going_log = take 6 worked_log
+
+abbrev pub going_journal : List Entry
+going_journal = take 7 early_journal
 
 -- FAULTS
 
@@ -108,6 +117,36 @@ short_log = take 12 worked_log
 
 abbrev pub short_journal : List Entry
 short_journal = take 9 worked_journal
+
+-- the read's call fails, and the run goes on
+abbrev pub broken_log : List Call
+broken_log = take 12 worked_log ++ fails (gets 0 5) ∷ []
+
+abbrev pub heedless_journal : List Entry
+heedless_journal = take 10 worked_journal ++ at 13 (Idle the_volume) ∷ at 13 (Clean the_volume) ∷ at 13 (Begin 4) ∷ []
+
+-- TWO CLIENTS write to one sector
+
+abbrev pub two_writes : Asked
+two_writes = record {
+  ops =
+      record { client = 0; kind = OpWrite the_volume 5 the_value }
+      ∷ record { client = 1; kind = OpWrite the_volume 5 1 } ∷ [];
+  asks = [];
+}
+
+abbrev pub puts_both : Sector → List Call
+puts_both s = puts 0 5 s ∷ puts 1 5 s ∷ syncs 0 ∷ syncs 1 ∷ []
+
+-- client 1 writes over the sector of client 0 before that is acknowledged, and is acknowledged first
+abbrev pub overwritten_log : List Call
+overwritten_log = take 8 worked_log ++ puts_both (sector_of the_value) ++ puts_both (sector_of 1)
+
+abbrev pub overwritten_journal : List Entry
+overwritten_journal =
+    at 0 (Begin 2) ∷ at 4 (End 2) ∷ at 4 (Ready the_volume) ∷ at 4 (Submit 0) ∷ at 4 (Pending the_volume)
+    ∷ at 4 (Submit 1) ∷ at 4 (Begin 3) ∷ at 8 (End 3) ∷ at 8 (Active the_volume)
+    ∷ at 16 (Ack 1 Done) ∷ at 16 (Ack 0 Done) ∷ []
 
 -- STAMPS
 

@@ -1,10 +1,11 @@
-use Rattle.std.proofs.Common.{rules, ◌≡◌, ℕ, zero, suc, List, [], ◌∷◌, drop, length, Some, None, refl, ap, ◌∙◌, sym, subst, arith, inl, inr}
-use Rattle.imsm_base.specs.declared.units.Sector.{Sector}
+use Rattle.std.proofs.Common.{rules, ◌≡◌, ℕ, zero, suc, true, false, List, [], ◌∷◌, drop, length, Some, None, refl, ap, ◌∙◌, sym, subst, arith, inl, inr}
+use Rattle.units.specs.declared.disk.Sector.{Sector}
 use Rattle.array_model.specs.declared.journal.Entry.{Entry}
 use Rattle.array_model.specs.declared.journal.Event.TheVariants.{Begin, End}
 use Rattle.array_model.specs.Script.{Target, write_at, sector_of}
 use Rattle.array_model.specs.Candidates.{In, writes}
 use Rattle.array_model.specs.Blocks.{Laid}
+use Rattle.array_model.specs.Causes.{GoesOn, Over}
 use Rattle.array_model.specs.Rounds.{IsFinished, HasFinished}
 use Rattle.array_model.specs.Small.{small_start, small_words, small_disks, write_and_read, the_value, block, at}
 use Rattle.refused_runs.specs.Wrong.{callless_journal, rows_journal}
@@ -46,7 +47,7 @@ data_is (suc (suc i)) target h = absurd (let none : None ≡ Some target = h in 
 
 pub returns-clause-unnamed : goal.returns-clause-unnamed
 returns-clause-unnamed c ended limit calls admitted = elim admitted.kept.calls.1.1.1.1.0 [
-  | inl anchor ↦ let none : None ≡ Some anchor.round.generation = anchor.round.is_open in cc none
+  | inl anchor ↦ let none : Over ≡ GoesOn anchor.round.generation = anchor.round.goes_on in cc none
   | inr row ↦ (
       let brings : block 3 1 0 ∷ [] ≡ row.0.target.value ∷ [] = row.1 in
       let same : block 3 1 0 ≡ row.0.target.value = cc brings in
@@ -54,3 +55,15 @@ returns-clause-unnamed c ended limit calls admitted = elim admitted.kept.calls.1
       cc three
       )
 ]
+
+pub returns-clause-unspread : goal.returns-clause-unspread
+returns-clause-unspread c ended limit calls admitted = c.example_of_the_rounds.ensures.unspread admitted.kept.endings
+
+pub returns-clause-unsettled : goal.returns-clause-unsettled
+returns-clause-unsettled c ended limit calls admitted = c.example_of_the_rounds.ensures.unsettled admitted.kept.endings
+
+pub returns-clause-needless : goal.returns-clause-needless
+returns-clause-needless c log ended limit calls admitted = let due : false ≡ true = admitted.form.causes.1.1.1.0.0 in cc due
+
+pub returns-clause-twins : goal.returns-clause-twins
+returns-clause-twins c ended limit calls admitted = c.example_of_the_rounds.ensures.twins admitted.kept.renewed

@@ -3,8 +3,8 @@ use Rattle.array_model.specs.Renewal.{FitsGeneration}
 use Rattle.array_model.specs.FailureLaw.{EndsAtFailure}
 use Rattle.stage_machine.specs.Machine.{Action, Monitors}
 use Rattle.stage_machine.specs.Worked.{the_turns}
-use Rattle.refused_runs.specs.Wrong.{unrecorded_log}
-use Rattle.refused_runs.proofs.Runs.{world, form, kept, ends}
+use Rattle.refused_runs.specs.Wrong.{unrecorded_log, failed_journal, short_journal}
+use Rattle.refused_runs.proofs.Runs.{world, form, kept, ends, has_room}
 use Rattle.refused_runs.proofs.right_stops_are_admitted.Goals as goal
 
 -- until the write is acknowledged
@@ -24,6 +24,7 @@ returns-clause-full c =
       counted = refl;
       kept = keeps_log;
       answers = record { order = keeps_form.order; values = search; reads = keeps_log.reads; whole = search };
+      room = has_room 12 short_journal (omega arith);
       ends = record {
         spent = inl (omega arith);
         works = λ rests. let unanswered : false ≡ true = rests.answered 1 (omega arith) in cc unanswered;
@@ -48,6 +49,7 @@ returns-clause-member c d is =
       counted = refl;
       kept = keeps_log;
       answers = record { order = keeps_form.order; values = search; reads = keeps_log.reads; whole = search };
-      ends = subst (λ n. EndsAtFailure unrecorded_log (Some n)) (sym is)
+      room = has_room 1048576 failed_journal (omega arith);
+      ends = subst (λ n. EndsAtFailure unrecorded_log failed_journal (Some n)) (sym is)
           (ends opening.asks opening.renews opening.stands opening.volume failed_turns failed_fits);
     }

@@ -1,15 +1,16 @@
-use Rattle.std.proofs.Common.{◌≡◌, ℕ, not, Bool, true, false, [], ◌∷◌, drop, refl, subst, arith}
+use Rattle.std.proofs.Common.{◌≡◌, ℕ, not, Bool, true, [], ◌∷◌, drop, refl, subst, arith}
 use Rattle.std.proofs.lemmas.Bool.Decides.{nat_tests}
+use Rattle.std.proofs.lemmas.Bool.{not-true}
 use Rattle.array_model.specs.Blocks.{Laid}
 use Rattle.array_model.specs.Candidates.{In, writes}
 use Rattle.array_model.specs.Rounds.{IsFinished}
-use Rattle.array_model.specs.AnswerLaw.{IsWhole}
+use Rattle.array_model.specs.AnswerLaw.{IsVolumeWhole}
 use Rattle.array_model.specs.Renewal.{FitsGeneration}
 use Rattle.array_model.specs.Small.{small_start, small_words, small_disks, small_expects, block, worked_log, worked_journal}
 use Rattle.array_model.proofs.Written.{written_passes}
 use Rattle.stage_machine.specs.Worked.{small_setting, the_turns}
 use Rattle.rest_law.proofs.Durable.{durably_clean}
-use Rattle.refused_runs.proofs.Runs.{world, form, kept, ends}
+use Rattle.refused_runs.proofs.Runs.{world, form, kept, ends, has_room}
 use Rattle.refused_runs.proofs.the_right_run_is_admitted.Goals as goal
 
 fits : FitsGeneration (world the_turns).control.round.note
@@ -22,14 +23,10 @@ last_passes P m passes (stamp, begun, round) =
     written_passes small_words small_disks (λ s. refl) P round.disk (drop 13 worked_log) m (rw passes refl)
     (subst (λ z. In m (writes small_words small_disks round.disk (drop z worked_log))) at round.written)
 
-is_false : (b : Bool) → not b ≡ true → b ≡ false
-is_false true h = absurd cc
-is_false false h = refl
-
-whole : (m : Laid) → IsFinished small_start worked_log worked_journal m → (v : ℕ) → small_start.is_started v ≡ true → IsWhole small_start worked_journal m v
+whole : (m : Laid) → IsFinished small_start worked_log worked_journal m → (v : ℕ) → small_start.is_started v ≡ true → IsVolumeWhole small_start worked_journal m v
 whole m finished v started =
     let first : 0 ≡ v = grind (arith, nat_tests, started) in
-    subst (λ n. IsWhole small_start worked_journal m n) first (record {
+    subst (λ n. IsVolumeWhole small_start worked_journal m n) first (record {
       slots = (
         (last_passes (λ m. small_expects m (65 ∷ [])) m refl finished, refl),
         ((last_passes (λ m. small_expects m (66 ∷ [])) m refl finished, refl), tt),
@@ -46,10 +43,11 @@ returns c =
       counted = refl;
       kept = kept opening.asks opening.renews opening.stands opening.volume the_turns fits;
       answers = c.example_of_the_answer_law.ensures.meets;
+      room = has_room 1048576 worked_journal (omega arith);
       ends = record {
         rests = c.example_of_the_rest.ensures.meets;
         clean = record {
-          clean = λ m finished. is_false _ (last_passes (λ m. not (small_words.is_dirty m 0)) m refl finished);
+          clean = λ m finished. not-true _ (last_passes (λ m. not (small_words.is_dirty m 0)) m refl finished);
           durable = durably_clean small_setting (world the_turns) opening.asks rest.can_end opening.renews opening.stands opening.volume fits rest.reached rest.went rest.rests;
           whole = whole;
         };

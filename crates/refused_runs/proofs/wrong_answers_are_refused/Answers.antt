@@ -1,5 +1,5 @@
 use Rattle.std.proofs.Common.{◌≡◌, ◌≤◌, true, false, length, ap, arith}
-use Rattle.imsm_base.specs.declared.units.Sector.{Sector}
+use Rattle.units.specs.declared.disk.Sector.{Sector}
 use Rattle.array_model.specs.Script.{sector_of}
 use Rattle.array_model.specs.Small.{zeros, the_value}
 use Rattle.refused_runs.proofs.wrong_answers_are_refused.Goals as goal

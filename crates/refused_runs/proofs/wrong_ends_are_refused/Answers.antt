@@ -1,4 +1,4 @@
-use Rattle.std.proofs.Common.{◌≡◌, ◌<◌, ◌==◌, ◌||◌, not, Bool, true, false, refl, subst, ◌∙◌, arith, inl, inr}
+use Rattle.std.proofs.Common.{◌≡◌, ◌+◌, ◌<◌, ◌≤◌, ◌==◌, ◌||◌, not, Bool, true, false, List, [], ◌∷◌, length, length-append, refl, ap, subst, ◌∙◌, arith, inl, inr}
 use Rattle.device_log.specs.Log.{Call}
 use Rattle.array_model.specs.Small.{worked_log}
 use Rattle.refused_runs.specs.Wrong.{unrecorded_log}
@@ -49,3 +49,13 @@ returns-clause-other c d is limit calls admitted =
     let first : last.disk ≡ 0 = admitted.ends.on_disk ∙ is in
     let none : false ≡ true = subst (λ n. (false || not (n == 0)) ≡ true) first (subst (λ b. (b || not (last.disk == 0)) ≡ true) admitted.ends.fails passes) in
     cc none
+
+pub returns-clause-unheeded : goal.returns-clause-unheeded
+returns-clause-unheeded c calls admitted = let room : 9 ≤ 8 = admitted.room.1.1.1.1.1.0 refl in omega (arith, room)
+
+pub returns-clause-heedless : goal.returns-clause-heedless
+returns-clause-heedless c d limit calls admitted =
+    let it = admitted.ends in
+    let count : 13 ≡ length it.before + 1 = ap (λ (xs : List Call). length xs) it.parts ∙ length-append it.before (it.last ∷ []) in
+    let last : 13 ≤ length it.before = it.behind.1.1.1.1.1.1.1.1.1.1.0 in
+    omega (arith, count, last)
