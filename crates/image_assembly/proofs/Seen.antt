@@ -2,19 +2,17 @@
 use Rattle.std.proofs.Common.{◌≡◌, ◌≢◌, ◌≤◌, ℕ, suc, Bool, List, [], ◌∷◌, ◌++◌, Option, Some, None, refl, sym, ◌∙◌, ap, append_assoc, subst, arith}
 use Rattle.std.specs.Prelude.{IfSome, slice_get, slice_index, ◌↔◌}
 use Rattle.std.specs.List.{AllByRecursion}
-use Rattle.imsm_base.specs.declared.units.Sector.{Sector}
-use Rattle.imsm_base.specs.declared.units.Serial.{Serial}
+use Rattle.units.specs.declared.disk.Sector.{Sector}
+use Rattle.units.specs.declared.disk.Serial.{Serial}
 use Rattle.imsm_base.specs.Parts.{block_in}
 use Rattle.imsm_base.specs.Whole.{IsWholeBlock, IsWholeDisk}
-use Rattle.device_log.specs.Log.{Call, What, Read, Write, Sync}
+use Rattle.device_log.specs.Log.{Call, OnlyReads}
 use Rattle.member_bank.specs.Faults.{Rose}
 use Rattle.member_bank.specs.Told.{Keeps}
 use Rattle.mpb_store.specs.declared.answer.Found.{Found}
 use Rattle.mpb_store.specs.declared.answer.Found.TheVariants as found
 use Rattle.mpb_store.specs.Answers.{IsFound, bytes_on}
 use Rattle.mpb_store.specs.Banks.{IsAnswerOn, IsReadOf, LogsReads}
-use Rattle.mpb_store.specs.Banks.{IsRead as IsDiskRead}
-use Rattle.image_outside.specs.Outside.{IsRead, OnlyReads}
 use Rattle.assembly.specs.declared.seen.Seen.{Seen}
 use Rattle.assembly.specs.declared.seen.SeenAs.{SeenAs}
 use Rattle.assembly.specs.declared.seen.SeenAs.TheVariants.{Whole, Blank, Torn, Unread}
@@ -71,14 +69,9 @@ seen_since {before = before} {mid} {now} {k} {s} named sized later seen = record
 }
 
 -- a log of reads has only reads with more of them
-is_read : (what : What) → IsDiskRead what → IsRead what
-is_read (Read place) read = tt
-is_read (Write place sectors stored) read = read
-is_read Sync read = read
-
 reads_both : (d : ℕ) (xs ys : List Call) → OnlyReads xs → AllByRecursion (IsReadOf d) ys → OnlyReads (xs ++ ys)
 reads_both d [] [] first more = tt
-reads_both d [] (y ∷ ys) first (one, more) = (is_read y.what one.read, reads_both d [] ys tt more)
+reads_both d [] (y ∷ ys) first (one, more) = (one.read, reads_both d [] ys tt more)
 reads_both d (x ∷ xs) ys (one, first) more = (one, reads_both d xs ys first more)
 
 pub only_more : (log more : Option (List Call)) (d : ℕ) (failed : Bool) → IfSome log OnlyReads → LogsReads log more d failed → IfSome more OnlyReads

@@ -1,19 +1,19 @@
 //! Disks are read one after the other.
 ghost use Rattle.std.specs.Prelude.{◌≡◌, ◌≤◌, ◌<◌, ℕ, Bool, [], length, IfSome, IfOk};
-ghost use Rattle.imsm_base.specs.declared.bounds.TheConstants.{MAX_BLOCK_BYTES};
+ghost use Rattle.units.specs.declared.bounds.TheConstants.{MAX_BLOCK_BYTES};
 ghost use Rattle.member_bank.specs.Told.{Keeps};
 ghost use Rattle.mpb_store.specs.declared.answer.Found.TheVariants.{Whole};
 ghost use Rattle.mpb_store.specs.Banks.{LogsReads};
 ghost use Rattle.image_outside.specs.Shelves.{HasOnlyReads};
 ghost use Rattle.image_outside.specs.Told.{bank_told};
-ghost use Rattle.image_assembly.specs.Seen.{AreSeen, IsSeen, bytes_of, found_of};
+ghost use Rattle.image_assembly.specs.Seen.{SeesAll, SeesDisk, bytes_of, found_of};
 
 use assembly::{Seen, SeenAs};
-use imsm_base::DiskNo;
 use imsm_buffer::MpbBuf;
 use member_bank::Bank;
 use mpb_store::{Found, found};
 use std::alloc::{AllocError, Global};
+use units::DiskNo;
 
 /// Sectors of the largest block.
 const MAX_BLOCK_SECTORS: u8 = 16;
@@ -48,7 +48,7 @@ fn see<B: Bank>(
 ) -> Result<Seen, AllocError>
     requires disk { d.0 < length (B.sizes bank.old) }
     requires room { MAX_BLOCK_BYTES ≤ into.old.room }
-    ensures seen { IfOk result (λ s. IsSeen (B.serials bank.old) (B.sizes bank.old) (B.opening bank.new) (B.log bank.new) (B.faults_of bank.old) (B.faults_of bank.new) d.0 s) }
+    ensures seen { IfOk result (λ s. SeesDisk B.Bank bank.old bank.new d.0 s) }
     ensures reads { (failed : Bool) × LogsReads (B.log bank.old) (B.log bank.new) d.0 failed }
     ensures opening { Keeps (B.opening bank.old) (B.opening bank.new) }
     ensures later { (k : ℕ) → B.faults_of bank.old k ≤ B.faults_of bank.new k }
@@ -69,7 +69,7 @@ fn see<B: Bank>(
 /// All disks are read, in the order of their numbers.
 pub(crate) fn see_all<B: Bank>(alloc: Global, bank: &mut B) -> Result<Vec<Seen>, AllocError>
     requires { IfSome (B.log bank.old) (λ l. l ≡ []) }
-    ensures seen { IfOk result (λ seen. AreSeen (B.serials bank.old) (B.sizes bank.old) (B.opening bank.new) (B.log bank.new) (B.faults_of bank.old) (B.faults_of bank.new) seen.items) }
+    ensures seen { IfOk result (λ seen. SeesAll B.Bank bank.old bank.new seen.items) }
     ensures reads { HasOnlyReads (bank_told B.Bank bank.new) }
     ensures opening { Keeps (B.opening bank.old) (B.opening bank.new) }
     ensures later { (k : ℕ) → B.faults_of bank.old k ≤ B.faults_of bank.new k }

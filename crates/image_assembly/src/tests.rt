@@ -4,11 +4,12 @@ ghost use Rattle.std.specs.Prelude.{◌≡◌, [], Some, IfOk};
 use crate::assemble;
 use assembly::{AssemblyFault, Verdict};
 use disk_roles::Lack;
-use imsm_base::{SECTOR_BYTES, Sector, Serial, get_u32, put_u32};
+use imsm_base::{get_u32, put_u32};
 use member_bank::{FailAt, LogRoom, MemBank, MemDisk};
 use std::alloc::{AllocError, Global};
 use std::process::Abort;
 use std::test::Fail;
+use units::{SECTOR_BYTES, Sector, Serial};
 
 /// The anchor of a mirror of the disks A and B, of 64 sectors each, with one volume of 32 sectors.
 fn anchor() -> Sector {

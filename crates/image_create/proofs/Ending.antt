@@ -3,9 +3,9 @@ use Rattle.std.proofs.Common.{◌≡◌, ◌∙◌, ℕ, ◌<◌, ◌≤◌, ◌
 use Rattle.std.specs.Prelude.{IfErr, IfSome, OnOk, Result, Ok, Err, slice_get, slice_index}
 use Rattle.std.proofs.lemmas.List.Elements.{All-get_or}
 use Rattle.std.proofs.lemmas.Option.{slice_get_within}
-use Rattle.imsm_base.specs.declared.units.DiskNo.{DiskNo}
-use Rattle.imsm_base.specs.declared.units.Sector.{Sector}
-use Rattle.imsm_base.specs.declared.units.Serial.{Serial}
+use Rattle.units.specs.declared.disk.DiskNo.{DiskNo}
+use Rattle.units.specs.declared.disk.Sector.{Sector}
+use Rattle.units.specs.declared.disk.Serial.{Serial}
 use Rattle.imsm_base.specs.Layout.{family_of}
 use Rattle.device_log.specs.Log.{Call}
 use Rattle.member_bank.specs.Faults.{Rose}
@@ -14,7 +14,7 @@ use Rattle.new_container.specs.declared.container.NewContainer.{NewContainer}
 use Rattle.new_container.specs.Created.{CanCreate, created_block}
 use Rattle.image_outside.specs.Told.{BankTold}
 use Rattle.image_outside.specs.Shelves.{IsUncalled}
-use Rattle.image_lines.specs.Lines.{failed_member_line}
+use Rattle.image_outside.specs.Lines.{failed_member_line}
 use Rattle.image_create.specs.Creates.{CreatesBy, bytes_on, calls_for, created_line, disks_in, rows_on}
 use Rattle.image_create.specs.Laid.{IsLaidDown, LaysDown}
 use Rattle.image_create.specs.Room.{IsFirstBelow}

@@ -4,9 +4,10 @@ use Rattle.std.specs.Prelude.{◌==◌, nat_lt, nat_le, slice_index, slice_index
 use Rattle.std.proofs.lemmas.Bool.{ne_eqb, cases_lt, ltb-true, lt-ltb}
 use Rattle.std.proofs.lemmas.Bool.Decides.{nat_tests}
 use Rattle.std.proofs.lemmas.List.Elements.{All-get_or}
-use Rattle.imsm_base.specs.declared.units.Sector.{Sector}
+use Rattle.units.specs.declared.disk.Sector.{Sector}
 use Rattle.imsm_base.specs.Parts.{block_in}
-use Rattle.imsm_base.specs.Whole.{anchor_place, extended_count, IsWholeDisk}
+use Rattle.imsm_base.specs.Whole.{IsWholeDisk}
+use Rattle.units.specs.Places.{anchor_place, extended_count}
 use Rattle.device_log.specs.Log.{Call}
 use Rattle.device_log.specs.Cells.{Cell, cell_after, resting}
 use Rattle.member_bank.specs.Told.{LogsAll}
@@ -17,7 +18,8 @@ use Rattle.mpb_store.proofs.Standing.{answer_standing}
 use Rattle.image_create.specs.Calls.{zero_calls, block_calls, calls_on, create_calls}
 use Rattle.image_create.specs.Laid.{first_place, laid_sector, IsLaidDown, LaysDown}
 use Rattle.image_create.proofs.Places.{zeroed, unzeroed, zeros_other, block_anchor, block_extended, block_over, block_other}
-use Rattle.image_create.proofs.Turned.{Stays, Becomes, after_both, stays_both, becomes_behind, becomes_before, stays_all, becomes_all}
+use Rattle.image_create.proofs.Turned.{Stays, Becomes, stays_both, becomes_behind, becomes_before, stays_all, becomes_all}
+use Rattle.device_log.proofs.Cells.{cell_after-append}
 
 -- PLACE P OF DISK D
 
@@ -103,7 +105,7 @@ sector_laid : (sizes : List ℕ) (rows : ℕ) (bytes : List ℕ) (opening : List
     → sector_after opening (before ++ create_calls sizes rows bytes) d p ≡ laid_sector (slice_index sizes d) rows bytes (sector_after opening before d p) p
 sector_laid sizes rows bytes opening before d p roomy =
     let first : Cell = resting (slice_index_or (slice_index_or opening d []) p blank_sector) in
-    ap (λ (k : Cell). k.stood) (after_both d p first before (create_calls sizes rows bytes)) ∙ laid_at sizes rows bytes d p (cell_after d p first before) roomy
+    ap (λ (k : Cell). k.stood) (cell_after-append d p first before (create_calls sizes rows bytes)) ∙ laid_at sizes rows bytes d p (cell_after d p first before) roomy
 
 -- the places of a block have its sectors
 laid_anchor : (n rows : ℕ) (bytes : List ℕ) (before : Sector) → rows + 18 ≤ n → laid_sector n rows bytes before (anchor_place n) ≡ block_sector bytes 0

@@ -1,26 +1,14 @@
 -- Calls that are made one behind the other.
 use Rattle.std.proofs.Common.{◌≡◌, ℕ, ◌≤◌, List, [], ◌∷◌, ◌++◌, Option, Result, Ok, Err, refl, sym, ◌∙◌, ap, subst, arith}
-use Rattle.std.specs.Prelude.{IfErr, IsErrAnd, OnOk, OnErr, is_ok}
+use Rattle.std.specs.Prelude.{IfErr, IsErrAnd, OnErr, is_ok}
 use Rattle.std.proofs.lemmas.List.{append_assoc}
-use Rattle.imsm_base.specs.declared.units.Sector.{Sector}
+use Rattle.units.specs.declared.disk.Sector.{Sector}
 use Rattle.device_log.specs.Log.{Call, Sync}
 use Rattle.member_bank.specs.History.{sectors_asked}
 use Rattle.member_bank.specs.Told.{Logs, LogsAll, LogsWrite}
 use Rattle.image_outside.specs.Told.{BankTold}
 use Rattle.image_create.specs.Calls.{write_call, sync_call}
 use Rattle.image_create.specs.Stops.{IsStopped, StopsAt, KeepsBank, failed_call}
-
-pub on_err : {T E : Type 0} (r : Result T E) (P : Type 0) → P → OnErr r P
-on_err (Ok x) P is = tt
-on_err (Err e) P is = is
-
-pub on_ok_map : {T E : Type 0} {P Q : Type 0} (r : Result T E) → OnOk r P → (P → Q) → OnOk r Q
-on_ok_map (Ok x) is goes = goes is
-on_ok_map (Err e) is goes = tt
-
-pub on_err_map : {T E : Type 0} {P Q : Type 0} (r : Result T E) → OnErr r P → (P → Q) → OnErr r Q
-on_err_map (Ok x) is goes = tt
-on_err_map (Err e) is goes = goes is
 
 -- the error that is handed on
 pub handed_on : {T E : Type 0} (r : Result T E) (met : E) (P : E → Type 0) → IsErrAnd r (λ e. e ≡ met) → P met → IfErr r P

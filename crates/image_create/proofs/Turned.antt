@@ -2,13 +2,14 @@
 use Rattle.std.proofs.Common.{◌≡◌, ◌≢◌, ℕ, zero, suc, ◌+◌, ◌-◌, ◌<◌, ◌≤◌, Bool, true, false, cond, List, [], ◌∷◌, ◌++◌, length, map, get_or, refl, sym, ◌∙◌, ap, subst, arith}
 use Rattle.std.specs.Prelude.{◌==◌, nat_lt, slice_index}
 use Rattle.std.specs.List.{range_with_len, flat_map}
-use Rattle.std.proofs.lemmas.Bool.{ne_eqb}
+use Rattle.std.proofs.lemmas.Bool.{ne_eqb, eq-eqb}
 use Rattle.std.proofs.lemmas.Bool.Decides.{nat_tests}
-use Rattle.imsm_base.specs.declared.units.Sector.{Sector}
+use Rattle.units.specs.declared.disk.Sector.{Sector}
 use Rattle.device_log.specs.Log.{Call, What}
 use Rattle.device_log.specs.Cells.{Cell, brought, cell_after, cell_at, cell_called, cell_written}
 use Rattle.image_create.specs.Calls.{write_call, sync_call, calls_on}
 use Rattle.image_create.proofs.Disks.{calls_on-at}
+use Rattle.device_log.proofs.Cells.{cell_after-append}
 
 -- what stood there stays, or this sector stands there afterwards
 pub record Stays (d p : ℕ) (calls : List Call) : Type 0 where
@@ -17,35 +18,28 @@ pub record Stays (d p : ℕ) (calls : List Call) : Type 0 where
 pub record Becomes (d p : ℕ) (calls : List Call) (x : Sector) : Type 0 where
   pub becomes : (c : Cell) → (cell_after d p c calls).stood ≡ x
 
-pub after_both : (d p : ℕ) (c : Cell) (xs ys : List Call) → cell_after d p c (xs ++ ys) ≡ cell_after d p (cell_after d p c xs) ys
-after_both d p c [] ys = refl
-after_both d p c (x ∷ xs) ys = after_both d p (cell_called d p c x) xs ys
-
 pub stays_none : (d p : ℕ) → Stays d p []
 stays_none d p = record { stays = λ c. refl }
 
 pub stays_both : {d p : ℕ} (xs ys : List Call) → Stays d p xs → Stays d p ys → Stays d p (xs ++ ys)
 stays_both {d} {p} xs ys first second = record {
-  stays = λ c. ap (λ (k : Cell). k.stood) (after_both d p c xs ys) ∙ second.stays (cell_after d p c xs) ∙ first.stays c;
+  stays = λ c. ap (λ (k : Cell). k.stood) (cell_after-append d p c xs ys) ∙ second.stays (cell_after d p c xs) ∙ first.stays c;
 }
 
 pub becomes_behind : {d p : ℕ} {x : Sector} (xs ys : List Call) → Becomes d p ys x → Becomes d p (xs ++ ys) x
 becomes_behind {d} {p} xs ys second = record {
-  becomes = λ c. ap (λ (k : Cell). k.stood) (after_both d p c xs ys) ∙ second.becomes (cell_after d p c xs);
+  becomes = λ c. ap (λ (k : Cell). k.stood) (cell_after-append d p c xs ys) ∙ second.becomes (cell_after d p c xs);
 }
 
 pub becomes_before : {d p : ℕ} {x : Sector} (xs ys : List Call) → Becomes d p xs x → Stays d p ys → Becomes d p (xs ++ ys) x
 becomes_before {d} {p} xs ys first second = record {
-  becomes = λ c. ap (λ (k : Cell). k.stood) (after_both d p c xs ys) ∙ second.stays (cell_after d p c xs) ∙ first.becomes c;
+  becomes = λ c. ap (λ (k : Cell). k.stood) (cell_after-append d p c xs ys) ∙ second.stays (cell_after d p c xs) ∙ first.becomes c;
 }
 
 -- ONE CALL
 
 pub stays_other : (k d p : ℕ) (what : What) → k ≢ d → Stays d p (record { disk = k; what = what; went = true } ∷ [])
 stays_other k d p what other = record { stays = λ c. ap (λ (b : Bool). (cond b (cell_at p c what true) c).stood) (ne_eqb k d other) }
-
-on_own : (d : ℕ) → (d == d) ≡ true
-on_own d = grind (arith, nat_tests)
 
 pub stays_sync : (d k p : ℕ) → Stays d p (sync_call k ∷ [])
 stays_sync d k p = record { stays = λ c. at c (k == d) } where
@@ -82,7 +76,7 @@ written_here c place (s ∷ ss) stored p (suc j) x there within all =
     written_here (cond (place == p) (brought c s (nat_lt 0 stored)) c) (place + 1) ss (stored - 1) p j x (omega arith) (omega arith) (omega arith)
 
 called_own : (d p : ℕ) (c : Cell) (what : What) → (cell_called d p c (record { disk = d; what = what; went = true })).stood ≡ (cell_at p c what true).stood
-called_own d p c what = ap (λ (b : Bool). (cond b (cell_at p c what true) c).stood) (on_own d)
+called_own d p c what = ap (λ (b : Bool). (cond b (cell_at p c what true) c).stood) (eq-eqb d d refl)
 
 pub stays_below : (d place p : ℕ) (sectors : List Sector) → p < place → Stays d p (write_call d place sectors ∷ [])
 stays_below d place p sectors below = record {

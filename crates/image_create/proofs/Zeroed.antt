@@ -2,8 +2,8 @@
 use Rattle.std.proofs.Common.{◌≡◌, ℕ, ◌+◌, ◌-◌, ◌*◌, ◌<◌, min, List, [], ◌∷◌, ◌++◌, map, take, Option, sym, ◌∙◌, ap, subst, arith}
 use Rattle.std.specs.List.{range_with_len}
 use Rattle.std.proofs.lemmas.List.{append_assoc, map-append, take-replicate}
-use Rattle.imsm_base.specs.declared.units.Sector.{Sector}
-use Rattle.imsm_base.specs.Whole.{anchor_place}
+use Rattle.units.specs.declared.disk.Sector.{Sector}
+use Rattle.units.specs.Places.{anchor_place}
 use Rattle.device_log.specs.Log.{Call}
 use Rattle.member_bank.specs.Told.{LogsAll}
 use Rattle.mpb_store.specs.Banks.{blank_sector}

@@ -2,9 +2,9 @@
 -- block. Source: this project's own; how a block is written is that of mpb_store.
 use Rattle.std.specs.Prelude.{ℕ, ◌+◌, ◌-◌, ◌*◌, ◌/◌, min, true, List, [], ◌∷◌, ◌++◌, map, length, replicate, slice_index}
 use Rattle.std.specs.List.{range_with_len, flat_map, slice_range}
-use Rattle.imsm_base.specs.declared.bounds.TheConstants.{MAX_WRITE_SECTORS}
-use Rattle.imsm_base.specs.declared.units.Sector.{Sector}
-use Rattle.imsm_base.specs.Whole.{anchor_place}
+use Rattle.units.specs.declared.bounds.TheConstants.{MAX_WRITE_SECTORS}
+use Rattle.units.specs.declared.disk.Sector.{Sector}
+use Rattle.units.specs.Places.{anchor_place}
 use Rattle.device_log.specs.Log.{Call, Write, Sync}
 use Rattle.mpb_store.specs.declared.writing.Step.{Step}
 use Rattle.mpb_store.specs.declared.writing.Step.TheVariants.{Extended, Anchor, Sync as SyncStep, Over}

@@ -1,8 +1,8 @@
 -- What the making of a container leaves of a bank. Source: this project's own.
 use Rattle.std.specs.Prelude.{◌≡◌, ℕ, ◌+◌, ◌⊎◌, List, [], ◌∷◌, codes, length, slice_get, slice_index, Some, IfSome}
 use Rattle.std.specs.Fmt.{decimal}
-use Rattle.imsm_base.specs.declared.bounds.TheConstants.{METADATA_SECTORS}
-use Rattle.imsm_base.specs.declared.units.Serial.{Serial}
+use Rattle.units.specs.declared.bounds.TheConstants.{METADATA_SECTORS}
+use Rattle.units.specs.declared.disk.Serial.{Serial}
 use Rattle.imsm_base.specs.Layout.{family_of}
 use Rattle.device_log.specs.Log.{Call}
 use Rattle.member_bank.specs.Faults.{Rose}
@@ -12,7 +12,7 @@ use Rattle.new_container.specs.Created.{CanCreate, created_block, created_bytes}
 use Rattle.new_container.specs.Fits.{total_rows}
 use Rattle.image_outside.specs.Told.{BankTold}
 use Rattle.image_outside.specs.Shelves.{IsFresh}
-use Rattle.image_lines.specs.Lines.{failed_member_line}
+use Rattle.image_outside.specs.Lines.{failed_member_line}
 use Rattle.imsm_text.specs.Text.{hex_number, line, serial_text}
 use Rattle.image_create.specs.Calls.{create_calls}
 use Rattle.image_create.specs.Laid.{LaysDown}
@@ -28,13 +28,13 @@ abbrev pub created_line : ℕ → List ℕ
 created_line family = line (codes "created") (hex_number family ∷ [])
 
 -- the disks of a bank, by their serials and sizes
-abbrev pub disks_of : List Serial → List ℕ → List NewDisk
-disks_of [] sizes = []
-disks_of (s ∷ serials) [] = []
-disks_of (s ∷ serials) (n ∷ sizes) = record { serial = s; sectors = n } ∷ disks_of serials sizes
+abbrev pub new_disks_of : List Serial → List ℕ → List NewDisk
+new_disks_of [] sizes = []
+new_disks_of (s ∷ serials) [] = []
+new_disks_of (s ∷ serials) (n ∷ sizes) = record { serial = s; sectors = n } ∷ new_disks_of serials sizes
 
 abbrev pub disks_in : BankTold → List NewDisk
-disks_in bank = disks_of bank.serials bank.sizes
+disks_in bank = new_disks_of bank.serials bank.sizes
 
 -- how many rows of each disk a container takes, how many sectors each must have, the block, and the calls that make it
 abbrev pub rows_on : NewContainer → BankTold → ℕ

@@ -1,8 +1,9 @@
 -- What stands on new disks on which a block was laid down. Source: this project's own.
 use Rattle.std.specs.Prelude.{◌≡◌, ℕ, ◌+◌, ◌-◌, ◌<◌, ◌==◌, ◌&&◌, nat_lt, nat_le, Bool, if◌then◌else◌, List, length, slice_index, Option, IfSome}
-use Rattle.imsm_base.specs.declared.units.Sector.{Sector}
+use Rattle.units.specs.declared.disk.Sector.{Sector}
 use Rattle.imsm_base.specs.Parts.{block_in}
-use Rattle.imsm_base.specs.Whole.{anchor_place, extended_count, IsWholeDisk}
+use Rattle.imsm_base.specs.Whole.{IsWholeDisk}
+use Rattle.units.specs.Places.{anchor_place, extended_count}
 use Rattle.device_log.specs.Log.{Call}
 use Rattle.mpb_store.specs.declared.answer.Found.TheVariants.{Whole}
 use Rattle.mpb_store.specs.Banks.{blank_sector, sector_after, IsAnswerOn}

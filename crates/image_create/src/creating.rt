@@ -1,6 +1,6 @@
 //! A container is made over the disks of a bank.
 ghost use Rattle.std.specs.Prelude.{◌≡◌, ℕ, ◌<◌, true, Some, IfErr, IfOk, OnOk, length, slice_get, slice_index};
-ghost use Rattle.imsm_base.specs.declared.units.Serial.{Serial};
+ghost use Rattle.units.specs.declared.disk.Serial.{Serial};
 ghost use Rattle.imsm_base.specs.Layout.{family_of};
 ghost use Rattle.imsm_buffer.specs.Buffer.{parts_of};
 ghost use Rattle.member_bank.specs.Told.{Keeps};
@@ -9,24 +9,23 @@ ghost use Rattle.image_outside.specs.Endings.{Ends, EndsIfMemory, Prints};
 ghost use Rattle.image_outside.specs.Shelves.{IsUncalled};
 ghost use Rattle.image_outside.specs.Told.{bank_told};
 ghost use Rattle.image_outside.specs.Views.{sink_told};
-ghost use Rattle.image_lines.specs.Lines.{failed_member_line};
-ghost use Rattle.image_create.specs.Creates.{CreatesBy, created_line, disks_of, least_on, small_line};
+ghost use Rattle.image_outside.specs.Lines.{failed_member_line};
+ghost use Rattle.image_create.specs.Creates.{CreatesBy, created_line, least_on, new_disks_of, small_line};
 ghost use Rattle.image_create.specs.Room.{IsFirstBelow};
 
 use crate::laying::lay_down;
 use crate::room::first_small;
-use image_lines::end_line;
-use image_outside::{Sink, Status, end_without_memory};
-use imsm_base::DiskNo;
+use image_outside::{Sink, Status, end_line, end_without_memory};
 use imsm_buffer::MpbBuf;
 use imsm_text::Word;
 use member_bank::Bank;
 use new_container::{NewContainer, NewDisk, new_block};
 use std::alloc::{AllocError, Global};
+use units::DiskNo;
 
 /// The disks of a bank, in the order of their numbers.
 fn disks_of<B: Bank>(alloc: Global, bank: &B) -> Result<Vec<NewDisk>, AllocError>
-    ensures { IfOk result (λ disks. disks.items ≡ disks_of (B.serials bank.now) (B.sizes bank.now)) }
+    ensures { IfOk result (λ disks. disks.items ≡ new_disks_of (B.serials bank.now) (B.sizes bank.now)) }
 {
     let mut disks = Vec::new(alloc);
     for d in 0..bank.disks() {

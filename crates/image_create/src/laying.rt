@@ -1,6 +1,6 @@
 //! Zeros are written to every disk, and then the block.
 ghost use Rattle.std.specs.Prelude.{◌≡◌, ◌+◌, ◌<◌, ◌≤◌, ◌∷◌, [], ℕ, All, IfErr, OnErr, OnOk, length, slice_index};
-ghost use Rattle.imsm_base.specs.declared.bounds.TheConstants.{HEADER_BYTES, MAX_BLOCK_BYTES, MAX_WRITE_SECTORS as MOST, METADATA_SECTORS};
+ghost use Rattle.units.specs.declared.bounds.TheConstants.{HEADER_BYTES, MAX_BLOCK_BYTES, MAX_WRITE_SECTORS as MOST, METADATA_SECTORS};
 ghost use Rattle.member_bank.specs.Faults.{Rose};
 ghost use Rattle.member_bank.specs.Told.{Keeps, LogsAll};
 ghost use Rattle.mpb_store.specs.Sectors.{block_sectors};
@@ -10,10 +10,10 @@ ghost use Rattle.image_create.specs.Laid.{LaysDown};
 ghost use Rattle.image_create.specs.Steps.{IsPlaced};
 ghost use Rattle.image_create.specs.Stops.{KeepsBank, StopsAt};
 
-use imsm_base::{DiskNo, MAX_WRITE_SECTORS, SECTOR_BYTES, Sector};
 use imsm_buffer::MpbBuf;
 use member_bank::{Bank, Failed};
 use mpb_store::{Step, WriteSteps, sectors_of};
+use units::{DiskNo, MAX_WRITE_SECTORS, SECTOR_BYTES, Sector};
 
 const ZERO: Sector = Sector([0; SECTOR_BYTES]);
 

@@ -1,10 +1,10 @@
 //! Whether disks have room for rows and metadata.
 ghost use Rattle.std.specs.Prelude.{◌≡◌, ◌+◌, ◌≤◌, ◌↔◌, All, IsTrue, MatchOption};
-ghost use Rattle.imsm_base.specs.declared.bounds.TheConstants.{METADATA_SECTORS as METADATA};
+ghost use Rattle.units.specs.declared.bounds.TheConstants.{METADATA_SECTORS as METADATA};
 ghost use Rattle.image_create.specs.Room.{IsFirstBelow};
 
-use imsm_base::{DiskNo, METADATA_SECTORS};
 use member_bank::Bank;
+use units::{DiskNo, METADATA_SECTORS};
 
 /// Whether so many sectors are enough for rows and metadata.
 fn has_room(sectors: u64, rows: u64) -> bool

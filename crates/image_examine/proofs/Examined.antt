@@ -1,17 +1,13 @@
 -- A bank of one disk, and what its log says after it was looked at.
-use Rattle.std.proofs.Common.{◌≡◌, ℕ, Bool, List, [], ◌∷◌, ◌++◌, length, Option, Some, None, refl, sym, ◌∙◌, ap, subst, arith}
+use Rattle.std.proofs.Common.{◌≡◌, ℕ, Bool, List, [], ◌∷◌, ◌++◌, length, Option, Some, refl, sym, ◌∙◌, ap, subst, arith}
 use Rattle.std.specs.Prelude.{IfSome}
 use Rattle.std.specs.List.{AllByRecursion}
-use Rattle.imsm_base.specs.declared.units.Sector.{Sector}
-use Rattle.imsm_base.specs.Whole.{anchor_place}
-use Rattle.device_log.specs.Log.{Call, What, Read, Write, Sync}
-use Rattle.mpb_store.specs.Banks.{AreRead, IsRead as IsDiskRead, IsReadOf, LogsLook, LogsReads, has_failed, places_read, sector_after}
-use Rattle.image_outside.specs.Outside.{IsRead, OnlyReads}
+use Rattle.units.specs.declared.disk.Sector.{Sector}
+use Rattle.units.specs.Places.{anchor_place}
+use Rattle.device_log.specs.Log.{Call, OnlyReads}
+use Rattle.mpb_store.specs.Banks.{AreRead, IsReadOf, LogsLook, LogsReads, has_failed, places_read, sector_after}
 use Rattle.image_examine.specs.Endings.{IsLook}
-
-pub if_told : {A : Type 0} (o : Option A) (P : A → Type 0) → ((x : A) → o ≡ Some x → P x) → IfSome o P
-if_told None P holds = tt
-if_told (Some x) P holds = holds x refl
+use Rattle.mpb_store.proofs.Told.{if_told}
 
 -- the one element of a list
 pub one_of : {A : Type 0} (xs : List A) → length xs ≡ 1 → (x : A) × (xs ≡ x ∷ [])
@@ -44,11 +40,6 @@ look_alone n opening old new failed fresh logs now told =
       stands = if_told opening (λ o. anchor ≡ (sector_after o now 0 (anchor_place n)).0) stands;
     }
 
-is_read : (what : What) → IsDiskRead what → IsRead what
-is_read (Read place) read = tt
-is_read (Write place sectors stored) read = read
-is_read Sync read = read
-
 pub only_reads : (d : ℕ) (log : List Call) → AllByRecursion (IsReadOf d) log → OnlyReads log
 only_reads d [] each = tt
-only_reads d (call ∷ log) (first, rest) = (is_read call.what first.read, only_reads d log rest)
+only_reads d (call ∷ log) (first, rest) = (first.read, only_reads d log rest)

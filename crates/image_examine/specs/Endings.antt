@@ -1,9 +1,10 @@
 -- How an examination ends. Source: this project's own.
 use Rattle.std.specs.Prelude.{◌≡◌, ℕ, Bool, List, [], ◌∷◌, Option, IfSome}
-use Rattle.imsm_base.specs.declared.units.Sector.{Sector}
-use Rattle.imsm_base.specs.declared.units.Serial.{Serial}
+use Rattle.units.specs.declared.disk.Sector.{Sector}
+use Rattle.units.specs.declared.disk.Serial.{Serial}
 use Rattle.imsm_base.specs.Parts.{block_in}
-use Rattle.imsm_base.specs.Whole.{IsWholeDisk, anchor_place}
+use Rattle.imsm_base.specs.Whole.{IsWholeDisk}
+use Rattle.units.specs.Places.{anchor_place}
 use Rattle.device_log.specs.Log.{Call}
 use Rattle.member_bank.specs.Faults.{Rose}
 use Rattle.mpb_store.specs.declared.answer.Found.{Found}

@@ -10,11 +10,11 @@ ghost use Rattle.image_examine.specs.Endings.{Examines};
 
 use crate::text::{found_status, found_text};
 use image_outside::{Sink, Status, end, end_without_memory};
-use imsm_base::DiskNo;
 use imsm_buffer::MpbBuf;
 use member_bank::Bank;
 use mpb_store::{Found, found};
 use std::alloc::Global;
+use units::DiskNo;
 
 /// Sectors of the largest block.
 const MAX_BLOCK_SECTORS: u8 = 16;

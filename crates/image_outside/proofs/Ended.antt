@@ -1,18 +1,7 @@
 -- How a command ends, by what became of its lines.
-use Rattle.std.proofs.Common.{◌≡◌, ℕ, inl, inr, List, refl, subst, sym}
-use Rattle.std.specs.Prelude.{OnErr, OnOk, Result, Ok, Err}
-use Rattle.image_outside.specs.Outside.{Adds, BreaksOff}
+use Rattle.std.proofs.Common.{ℕ, inl, inr, List, subst, sym}
 use Rattle.image_outside.specs.Told.{SinkTold}
-use Rattle.image_outside.specs.Endings.{Ends, EndsIfMemory, IsCutShort, IsWritten, Prints}
-
--- lines that were written or cut short, and the status after them
-pub ends_after : {E : Type 0} (old new : SinkTold) (lines : List ℕ) (status result : ℕ) (r : Result (Unit {0}) E)
-    → OnOk r (Adds old.written new.written lines) → OnErr r (BreaksOff old.written new.written old.faults new.faults lines)
-    → OnOk r (result ≡ status) → OnErr r (result ≡ 6) → Ends old new (Prints lines status) result
-ends_after old new lines status result (Ok value) adds breaks is fault =
-    inl (record { lines = lines; ends = record { lines_are = refl; status_is = is }; adds = adds })
-ends_after old new lines status result (Err failed) adds breaks is fault =
-    inr (fault, record { lines = lines; status = status; ends = record { lines_are = refl; status_is = refl }; breaks = breaks })
+use Rattle.image_outside.specs.Endings.{Ends, EndsIfMemory, Prints}
 
 -- what comes of one outcome comes of the end with it
 pub ends_so : (old new : SinkTold) (One Other : List ℕ → ℕ → Type 0) (status : ℕ) → ((lines : List ℕ) (s : ℕ) → One lines s → Other lines s)

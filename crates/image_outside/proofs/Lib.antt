@@ -1,4 +1,4 @@
 pub mod Written
 pub mod Taken
 pub mod Ended
-pub mod Opened
+pub mod Lined

@@ -2,14 +2,10 @@
 use Rattle.std.proofs.Common.{◌≡◌, ◌∙◌, ◌+◌, ◌-◌, ◌≤◌, ℕ, List, [], ◌++◌, take, drop, length, Option, Some, ap, sym, subst, append_assoc, arith, length-drop, drop-drop}
 use Rattle.std.proofs.lemmas.List.{append-nil, take-append-drop, take_all}
 use Rattle.std.specs.Prelude.{IfSome}
-use Rattle.member_bank.specs.Told.{Keeps}
 use Rattle.image_outside.specs.Outside.{IsAtEnd, Takes, TakesAll}
 
 pub takes_more : (first mid new : Option (List ℕ)) (xs ys : List ℕ) → Takes first mid xs → Takes mid new ys → Takes first new (xs ++ ys)
 takes_more first mid new xs ys takes more = λ now is. takes (ys ++ now) (more now is) ∙ ap (λ l. Some l) (sym (append_assoc xs ys now))
-
-pub takes_kept : (first mid new : Option (List ℕ)) (xs : List ℕ) → Takes first mid xs → Keeps mid new → Takes first new xs
-takes_kept first mid new xs takes kept = λ now is. takes now (kept now is)
 
 -- where nothing was left before a read of no bytes, all was read
 pub takes_all : (first last new : Option (List ℕ)) (bytes : List ℕ) → Takes first last bytes → Takes last new [] → IsAtEnd last → TakesAll first new bytes

@@ -7,6 +7,7 @@ use Rattle.std.proofs.Math.Seq.{take-add}
 use Rattle.member_bank.specs.Faults.{Rose}
 use Rattle.member_bank.specs.Told.{Keeps}
 use Rattle.image_outside.specs.Outside.{Adds, BreaksOff}
+use Rattle.member_bank.proofs.Faults.{rose_later}
 
 pub adds_kept : (first mid new : Option (List ℕ)) (bytes : List ℕ) → Adds first mid bytes → Keeps mid new → Adds first new bytes
 adds_kept first mid new bytes adds keeps = λ now is. adds now (keeps now is)
@@ -25,10 +26,6 @@ adds_more first mid new bytes at n adds more =
     rw (take-add at n bytes)
     (adds_both first mid new (take at bytes) (take n (drop at bytes)) adds
     (rw (take_all (length bytes - at) (drop at bytes) all) at more))
-
--- a count that rose at last has risen over all
-rose_later : (first mid new : ℕ) → first ≤ mid → Rose mid new → Rose first new
-rose_later first mid new later rose = omega arith
 
 -- the sink fails in the first bytes: none of those behind them was written
 pub breaks_first : (old new : Option (List ℕ)) (before now : ℕ) (xs ys : List ℕ) → BreaksOff old new before now xs → BreaksOff old new before now (xs ++ ys)

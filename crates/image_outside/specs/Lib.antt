@@ -4,3 +4,4 @@ pub mod Shelves
 pub mod Views
 pub mod Endings
 pub mod Memory
+pub mod Lines

@@ -3,8 +3,8 @@ use Rattle.std.specs.Prelude.{ℕ, ◌-◌, ◌==◌, ◌&&◌, ◌||◌, nat_lt
 use Rattle.std.specs.List.{list_any, find}
 use Rattle.std.specs.Str.{bytes_eq}
 use Rattle.std.specs.Option.{option_map}
-use Rattle.imsm_base.specs.declared.units.Sector.{Sector}
-use Rattle.imsm_base.specs.declared.units.Serial.{Serial}
+use Rattle.units.specs.declared.disk.Sector.{Sector}
+use Rattle.units.specs.declared.disk.Serial.{Serial}
 use Rattle.member_bank.specs.Faults.{next_count}
 use Rattle.member_bank.specs.Contents.{sizes_of}
 use Rattle.member_bank.specs.Memory.{MemState}
@@ -43,7 +43,8 @@ is_refused s bytes = list_any (λ n. n == next_count s.calls) s.fails || (nat_lt
 
 -- the sink after a write of a piece: it takes what fits
 abbrev pub written_to : SinkState → List ℕ → SinkState
-written_to s piece = record s { calls = next_count s.calls; written = s.written ++ take (s.room - length s.written) piece }
+written_to s piece =
+    record s { calls = next_count s.calls; written = s.written ++ take (s.room - length s.written) piece }
 
 abbrev pub refused_by : SinkState → SinkState
 refused_by s = record s { calls = next_count s.calls; faults = next_count s.faults }
@@ -58,8 +59,8 @@ mem_told b = record {
   faults = λ d. slice_index b.faults d;
 }
 
--- the files, the bank but while it is lent, the paths of its disks, the numbers of the opens that fail, and the opens and the
--- faults so far
+-- the files, the bank but while it is lent, the paths of its disks, the numbers of the opens that fail, and the opens
+-- and the faults so far
 pub record ShelfState : Type 0 where
   pub files : List MemFile
   pub bank : Option MemState
@@ -70,7 +71,8 @@ pub record ShelfState : Type 0 where
 
 -- the sectors of the first file of a name
 abbrev pub file_of : List MemFile → List ℕ → Option (List Sector)
-file_of files name = option_map (λ (f : MemFile). f.sectors.items) (find (λ (f : MemFile). bytes_eq (string_bytes f.name) name) files)
+file_of files name =
+    option_map (λ (f : MemFile). f.sectors.items) (find (λ (f : MemFile). bytes_eq (string_bytes f.name) name) files)
 
 -- what an open of this number finds: the file, unless the number is listed
 abbrev pub found_at : List MemFile → List ℕ → ℕ → List ℕ → Option (List Sector)

@@ -1,8 +1,6 @@
 -- What the outside tells: bytes that are left or were written, and the calls on disks. Source: this project's own.
-use Rattle.std.specs.Prelude.{◌≡◌, ◌≢◌, ℕ, List, ◌++◌, length, All, Option, Some, IfSome, [], ⊤}
-use Rattle.std.specs.List.{AllByRecursion}
-use Rattle.imsm_base.specs.declared.units.Serial.{Serial}
-use Rattle.device_log.specs.Log.{Call, What, Read, Write, Sync}
+use Rattle.std.specs.Prelude.{◌≡◌, ◌≢◌, ℕ, List, ◌++◌, length, All, Option, Some, IfSome, []}
+use Rattle.units.specs.declared.disk.Serial.{Serial}
 use Rattle.member_bank.specs.Faults.{Rose}
 
 -- bytes that are told after a call were told before it, and have these bytes at their end
@@ -35,15 +33,6 @@ pub record TakesFront (old new : Option (List ℕ)) (count : ℕ) : Type 0 where
   pub front : List ℕ
   pub counted : length front ≡ count
   pub takes : Takes old new front
-
--- what a log says was done: reads alone
-abbrev pub IsRead : What → Type 0
-IsRead (Read place) = ⊤
-IsRead (Write place sectors stored) = ⊥
-IsRead Sync = ⊥
-
-abbrev pub OnlyReads : List Call → Type 0
-OnlyReads log = AllByRecursion (λ c. IsRead c.what) log
 
 -- no disk has this serial
 abbrev pub IsNew : Serial → List Serial → Type 0

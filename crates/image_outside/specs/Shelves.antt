@@ -1,10 +1,10 @@
 -- The bank that a shelf holds, as its disks are opened. Source: this project's own.
 use Rattle.std.specs.Prelude.{◌≡◌, ℕ, ◌<◌, List, [], ◌∷◌, ◌++◌, length, Option, Some, IfSome}
-use Rattle.imsm_base.specs.declared.units.Sector.{Sector}
-use Rattle.imsm_base.specs.declared.units.Serial.{Serial}
+use Rattle.units.specs.declared.disk.Sector.{Sector}
+use Rattle.units.specs.declared.disk.Serial.{Serial}
 use Rattle.member_bank.specs.Told.{Keeps}
-use Rattle.image_outside.specs.Outside.{OnlyReads}
 use Rattle.image_outside.specs.Told.{BankTold}
+use Rattle.device_log.specs.Log.{OnlyReads}
 
 -- nothing but reads was made of a bank's disks, where it tells its log
 abbrev pub HasOnlyReads : BankTold → Type 0
@@ -20,8 +20,8 @@ OpensMore old new =
     (now : List (List Sector)) → new ≡ Some now
     → (before : List (List Sector)) × (disk : List Sector) × (old ≡ Some before) × (now ≡ before ++ disk ∷ [])
 
--- The bank has one disk more, at the end, with this serial and of some size, on which no call has failed. Opening a disk
--- logs nothing, and leaves the others as they are.
+-- The bank has one disk more, at the end, with this serial and of some size, on which no call has failed. Opening a
+-- disk logs nothing, and leaves the others as they are.
 pub record HasOneMore (serial : Serial) (old new : BankTold) : Type 0 where
   pub named : new.serials ≡ old.serials ++ serial ∷ []
   pub sized : (sectors : ℕ) × (new.sizes ≡ old.sizes ++ sectors ∷ [])

@@ -34,7 +34,12 @@ impl Model for MemSource {
 
     ghost Value = { SourceState };
 
-    ghost view = { λ s. record { left = drop s.at s.bytes.items; fails = s.fails.items; calls = s.calls; faults = s.faults } };
+    ghost view = { λ s. record {
+      left = drop s.at s.bytes.items;
+      fails = s.fails.items;
+      calls = s.calls;
+      faults = s.faults;
+    } };
 
     ghost invariant = { λ s. s.at ≤ vec_len s.bytes };
 }
@@ -115,7 +120,13 @@ impl Model for MemSink {
 
     ghost Value = { SinkState };
 
-    ghost view = { λ s. record { written = s.bytes.items; fails = s.fails.items; calls = s.calls; faults = s.faults; room = s.room } };
+    ghost view = { λ s. record {
+      written = s.bytes.items;
+      fails = s.fails.items;
+      calls = s.calls;
+      faults = s.faults;
+      room = s.room;
+    } };
 
     ghost invariant = { λ s. (vec_len s.bytes ≤ s.room) × (s.room ≤ vec_capacity s.bytes) };
 }
@@ -123,7 +134,13 @@ impl Model for MemSink {
 impl MemSink {
     /// A sink with room for so many bytes. The writes of these numbers, counted from 1, fail.
     pub fn new(alloc: Global, fails: Vec<u64>, room: u64) -> Result<MemSink, MemFault>
-        ensures { IfOk result (λ s. s ≡ record { written = []; fails = fails.items; calls = 0; faults = 0; room = room }) }
+        ensures { IfOk result (λ s. s ≡ record {
+          written = [];
+          fails = fails.items;
+          calls = 0;
+          faults = 0;
+          room = room;
+        }) }
     {
         let room = room as usize;
         let bytes = Vec::with_capacity(alloc, room).map_err(|_| MemFault::Memory)?;

@@ -7,9 +7,9 @@ ghost use Rattle.image_outside.specs.Outside.{Adds, BreaksOff, Takes, IsAtEnd, I
 ghost use Rattle.image_outside.specs.Told.{bank_told};
 ghost use Rattle.image_outside.specs.Shelves.{HasOneMore};
 
-use imsm_base::{DiskNo, MAX_DISKS, Serial};
 use member_bank::{Bank, Failed};
 use std::alloc::Global;
+use units::{DiskNo, MAX_DISKS, Serial};
 
 /// Where bytes come from, as those of a script.
 pub trait Source {
@@ -19,8 +19,9 @@ pub trait Source {
     /// How often a read has failed.
     ghost faults_of: { Self → ℕ };
 
-    /// Moves some first bytes of what is left to the front of a piece, and answers how many. The rest of the piece stays
-    /// as it was, and after a failed read all of it. 0 bytes into a piece that isn't empty are the end of the input.
+    /// Moves some first bytes of what is left to the front of a piece, and answers how many. The rest of the piece
+    /// stays as it was, and after a failed read all of it. 0 bytes into a piece that isn't empty are the end of the
+    /// input.
     fn read(&mut self, into: &mut [u8]) -> Result<usize, Failed>
         ensures count { IfOk result (λ n. n ≤ length into.old) }
         ensures moved { IfOk result (λ n. Takes (left self.old) (left self.new) (take n into.new)) }
@@ -116,7 +117,8 @@ pub trait Shelf {
 pub fn write_all<K: Sink>(sink: &mut K, bytes: &[u8]) -> Result<(), Failed>
     ensures all { OnOk result (Adds (K.written sink.old) (K.written sink.new) bytes.now) }
     ensures later { K.faults_of sink.old ≤ K.faults_of sink.new }
-    ensures failed { OnErr result (BreaksOff (K.written sink.old) (K.written sink.new) (K.faults_of sink.old) (K.faults_of sink.new) bytes.now) }
+    ensures failed { OnErr result (BreaksOff (K.written sink.old) (K.written sink.new)
+        (K.faults_of sink.old) (K.faults_of sink.new) bytes.now) }
 {
     let mut at = 0;
     while at < bytes.len() {

@@ -8,10 +8,10 @@ ghost use Rattle.image_outside.specs.Shelves.{HasOneMore};
 ghost use Rattle.image_outside.specs.Memory.{ShelfState, file_of, found_at, found_by, mem_told, paths_of, with_sectors, with_file, unopened, unfed};
 
 use crate::{MemFault, Shelf, ShelfFault};
-use imsm_base::{DiskNo, MAX_DISKS, Sector, Serial};
 use member_bank::{Bank, BankFault, FailAt, LogRoom, MemBank, MemDisk};
 use std::alloc::{AllocError, Global};
 use std::marker::Model;
+use units::{DiskNo, MAX_DISKS, Sector, Serial};
 
 /// A file in memory: its name, and its sectors from the first on.
 #[derive(Drop)]
@@ -36,7 +36,14 @@ impl Model for MemShelf {
 
     ghost Value = { ShelfState };
 
-    ghost view = { λ s. record { files = s.files.items; bank = s.bank; paths = paths_of s.paths.items; fails = s.fails.items; opens = s.opens; faults = s.faults } };
+    ghost view = { λ s. record {
+      files = s.files.items;
+      bank = s.bank;
+      paths = paths_of s.paths.items;
+      fails = s.fails.items;
+      opens = s.opens;
+      faults = s.faults;
+    } };
 }
 
 /// The file of a name.
@@ -89,7 +96,8 @@ fn add_to(
     requires distinct { IfSome bank.old (λ b. IsNew serial b.serials) }
     ensures number { IfOk result (λ d. IfSome bank.old (λ b. d.0 ≡ length b.serials)) }
     ensures ok { OnOk result (bank.new ≡ option_map (with_sectors serial sectors.now) bank.old) }
-    ensures more { OnOk result (IsSomeAnd bank.old (λ old. IsSomeAnd bank.new (λ new. HasOneMore serial (mem_told old) (mem_told new)))) }
+    ensures more { OnOk result (IsSomeAnd bank.old
+        (λ old. IsSomeAnd bank.new (λ new. HasOneMore serial (mem_told old) (mem_told new)))) }
     ensures err { OnErr result (bank.new ≡ bank.old) }
     ensures memory { result ≢ Err ShelfFault.Failed }
 {
@@ -124,7 +132,14 @@ impl MemShelf {
         device: Vec<FailAt>,
         room: LogRoom,
     ) -> Result<MemShelf, MemFault>
-        ensures { IfOk result (λ s. s ≡ record { files = files.items; bank = Some (opened [] device.items room); paths = []; fails = fails.items; opens = 0; faults = 0 }) }
+        ensures { IfOk result (λ s. s ≡ record {
+          files = files.items;
+          bank = Some (opened [] device.items room);
+          paths = [];
+          fails = fails.items;
+          opens = 0;
+          faults = 0;
+        }) }
     {
         let bank = MemBank::new(alloc, Vec::new(alloc), device, room).map_err(
             |_| MemFault::Memory,
@@ -172,7 +187,8 @@ impl Shelf for MemShelf {
         ensures failed { result ≡ Err ShelfFault.Failed → Rose self.old.faults self.new.faults }
 
         ensures unopened { IsNone (found_by self.old file.now) ↔ (result ≡ Err ShelfFault.Failed) }
-        ensures ok { OnOk result (option_map (with_file self.old serial file.now) (found_by self.old file.now) ≡ Some self.new) }
+        ensures ok { OnOk result (option_map (with_file self.old serial file.now) (found_by self.old file.now)
+            ≡ Some self.new) }
         ensures err { result ≡ Err ShelfFault.Failed → self.new ≡ unopened self.old }
         ensures memory { result ≡ Err ShelfFault.Memory → self.new ≡ unfed self.old }
     {

@@ -47,8 +47,10 @@ impl From<Failed> for SourceFault {
 pub fn read_all<S: Source>(alloc: Global, source: &mut S) -> Result<Vec<u8>, SourceFault>
     ensures all { IfOk result (λ bytes. TakesAll (S.left source.old) (S.left source.new) bytes.items) }
     ensures few { IfOk result (λ bytes. length bytes.items ≤ MAX_SOURCE_BYTES) }
-    ensures limit { result ≡ Err SourceFault.Bytes → TakesFront (S.left source.old) (S.left source.new) (MAX_SOURCE_BYTES + 1) }
-    ensures front { OnErr result ((count : ℕ) × (count ≤ MAX_SOURCE_BYTES + 1) × TakesFront (S.left source.old) (S.left source.new) count) }
+    ensures limit { result ≡ Err SourceFault.Bytes
+        → TakesFront (S.left source.old) (S.left source.new) (MAX_SOURCE_BYTES + 1) }
+    ensures front { OnErr result ((count : ℕ) × (count ≤ MAX_SOURCE_BYTES + 1)
+        × TakesFront (S.left source.old) (S.left source.new) count) }
     ensures later { S.faults_of source.old ≤ S.faults_of source.new }
     ensures failed { result ≡ Err SourceFault.Failed → Rose (S.faults_of source.old) (S.faults_of source.new) }
 {

@@ -17,8 +17,8 @@ impl Status {
     pub const WORDS: Status = Status(1);
     /// A disk of the container is absent.
     pub const WAITING: Status = Status(2);
-    /// What is asked can't be had of the images: an operation names a volume that isn't there, an image is too small for the
-    /// container, or no whole block is found.
+    /// What is asked can't be had of the images: an operation names a volume that isn't there, an image is too small
+    /// for the container, or no whole block is found.
     pub const REFUSED: Status = Status(3);
     /// A line of the script isn't in the grammar.
     pub const SCRIPT: Status = Status(4);

@@ -2,9 +2,9 @@
 use Rattle.std.proofs.Common.{◌≡◌, ℕ, ◌≤◌, false, true, List, length, map, Option, Some, None, refl, ap, sym, subst}
 use Rattle.std.specs.Prelude.{IfSome, ◌≢◌}
 use Rattle.std.specs.List.{AllByRecursion, AllPairs}
-use Rattle.imsm_base.specs.declared.bounds.TheConstants.{MAX_DISKS}
-use Rattle.imsm_base.specs.declared.units.Sector.{Sector}
-use Rattle.imsm_base.specs.declared.units.Serial.{Serial}
+use Rattle.units.specs.declared.bounds.TheConstants.{MAX_DISKS}
+use Rattle.units.specs.declared.disk.Sector.{Sector}
+use Rattle.units.specs.declared.disk.Serial.{Serial}
 use Rattle.device_log.specs.Log.{Call}
 use Rattle.array_model.specs.declared.journal.Entry.{Entry}
 use Rattle.array_model.specs.Fits.{FitsEntry}

@@ -1,15 +1,15 @@
 -- What a stage leaves, that was opened on images that start.
-use Rattle.std.proofs.Common.{◌≡◌, ℕ, ◌+◌, ◌^◌, ◌<◌, ◌≤◌, ◌||◌, ◌⊎◌, inl, inr, Bool, true, false, List, [], ◌∷◌, ◌++◌, length, drop, Option, Some, None, refl, ap, sym, subst, ◌∙◌, arith, length-append}
+use Rattle.std.proofs.Common.{◌≡◌, ℕ, ◌+◌, ◌^◌, ◌<◌, ◌≤◌, ◌||◌, ◌⊎◌, inl, inr, true, false, List, ◌++◌, length, Option, Some, None, refl, ap, sym, subst, ◌∙◌, arith}
 use Rattle.std.specs.Prelude.{IfSome, nat_lt, nat_le}
-use Rattle.std.specs.List.{AllByRecursion, list_all}
-use Rattle.std.proofs.lemmas.Bool.{leb-true, ltb-true}
-use Rattle.std.proofs.lemmas.List.{drop_at}
-use Rattle.imsm_base.specs.declared.units.Sector.{Sector}
-use Rattle.device_log.specs.Log.{Call, What, Read, Write, Sync}
+use Rattle.std.specs.List.{list_all}
+use Rattle.std.proofs.lemmas.Bool.{leb-true, ltb-true, or_cases}
+use Rattle.units.specs.declared.disk.Sector.{Sector}
+use Rattle.device_log.specs.Log.{Call, OnlyReads}
 use Rattle.member_bank.specs.Told.{Keeps}
 use Rattle.array_model.specs.Kept.{ScriptState, asked_by}
 use Rattle.array_model.specs.Rests.{HasComeToRest}
 use Rattle.array_model.specs.FailureLaw.{EndsAtFailure}
+use Rattle.array_model.specs.Room.{BeginsWithRoom}
 use Rattle.member_bank.specs.Faults.{Rose}
 use Rattle.member_bank.specs.declared.Bank as bank_of
 use Rattle.stage_machine.specs.Machine.{Action}
@@ -22,14 +22,12 @@ use Rattle.stage.specs.declared.open.Opening.{Opening}
 use Rattle.stage.specs.declared.ends.DriveEnd.{DriveEnd}
 use Rattle.stage.specs.declared.ends.DriveEnd.TheVariants.{Over, Full, Member}
 use Rattle.stage.specs.Stages.{Given, Seen, setting_of}
-use Rattle.stage.specs.Runs.{IsReading}
 use Rattle.stage.specs.Runs as stage
 use Rattle.stage.specs.Opens.{given_by, IsOpened}
 use Rattle.stage.specs.Drives.{Follows, EndsBy, AllStill}
 use Rattle.stage.specs.Causes.{KeepsBank}
 use Rattle.stage_law.specs.Runs.{IsRunOn, AsksRows, given_on, shape_on, start_of}
 use Rattle.stage_law.specs.Laws.{KeepsForm, KeepsLaws, IsSince, IsLeftClean}
-use Rattle.image_outside.specs.Outside.{IsRead, OnlyReads}
 use Rattle.image_outside.specs.Told.{bank_told}
 use Rattle.image_verdict.specs.declared.images.ImageRead.{ImageRead}
 use Rattle.image_verdict.specs.Images.{anchor_reads, sizes_of_all, HasReadAnchors, IsFoundOn, StandIn}
@@ -38,13 +36,8 @@ use Rattle.image_start.specs.Starts.{Starts}
 use Rattle.image_start.specs.Openings.{Opens, opened_on}
 use Rattle.image_start.proofs.Contents.{is-opening}
 use Rattle.image_replay.specs.Runs.{HasEnded, LeavesRun, failed_disk}
-
--- two ways to cut a list with the same number behind
-same_back : {X : Type 0} (xs ys zs ws : List X) → xs ++ ys ≡ zs ++ ws → length ys ≡ length ws → ys ≡ ws
-same_back xs ys zs ws is len =
-    let sum : length xs + length ys ≡ length zs + length ws = sym (length-append xs ys) ∙ ap (λ l. length l) is ∙ length-append zs ws in
-    let front : length zs ≡ length xs = omega (arith, sum, len) in
-    sym (drop_at xs ys (length xs) refl) ∙ ap (drop (length xs)) is ∙ drop_at zs ws (length xs) front
+use Rattle.stage_law.proofs.Laws.{same_behind}
+use Rattle.member_bank.proofs.Faults.{rose_later}
 
 -- what a stage takes as given is what the laws take
 given_same : (o : Opening) (opened : Opened) (script : ScriptState) (sizes : List ℕ) → Opens o opened → sizes ≡ opened.sizes → given_by o script sizes ≡ given_on opened script.ops
@@ -62,37 +55,20 @@ if_told : {T : Type 0} (P : T → Type 0) (told : Option T) → ((t : T) → tol
 if_told P None each = tt
 if_told P (Some t) each = each t refl
 
-one_of : (a b : Bool) → (a || b) ≡ true → (a ≡ true) ⊎ (b ≡ true)
-one_of true b is = inl refl
-one_of false b is = inr is
-
 -- the journal has too little room left, or too many calls were made
 pub no_room : (limit entries calls : ℕ) → (nat_lt limit (entries + 4) || nat_le (2 ^ 48) calls) ≡ true → (limit < entries + 4) ⊎ (2 ^ 48 ≤ calls)
-no_room limit entries calls full = at (one_of (nat_lt limit (entries + 4)) (nat_le (2 ^ 48) calls) full) where
+no_room limit entries calls full = at (or_cases (nat_lt limit (entries + 4)) (nat_le (2 ^ 48) calls) full) where
   at : (nat_lt limit (entries + 4) ≡ true) ⊎ (nat_le (2 ^ 48) calls ≡ true) → (limit < entries + 4) ⊎ (2 ^ 48 ≤ calls)
   at (inl little) = inl (ltb-true limit (entries + 4) little)
   at (inr many) = inr (leb-true (2 ^ 48) calls many)
 
--- a count that rose did so from none too
-rose_at_all : (before now : ℕ) → Rose before now → Rose 0 now
-rose_at_all before now rose = omega (arith, rose)
-
 read_before : (log : Option (List Call)) (reads : List Call) → IfSome log (λ l. l ≡ reads) → (before : List Call) → log ≡ Some before → before ≡ reads
 read_before log reads made before is = subst (λ (l : Option (List Call)). IfSome l (λ x. x ≡ reads)) is made
 
--- reads of anchors are reads
-only_reading : (calls : List Call) → OnlyReads calls → AllByRecursion (λ call. IsReading call.what) calls
-only_reading [] reads = tt
-only_reading (call ∷ calls) reads = (reading call.what reads.0, only_reading calls reads.1) where
-  reading : (what : What) → IsRead what → IsReading what
-  reading (Read place) is = tt
-  reading (Write place sectors stored) is = absurd is
-  reading Sync is = absurd is
-
-pub only_anchors : (log : Option (List Call)) (images : List ImageRead) → IfSome log (λ l. l ≡ anchor_reads images) → stage.OnlyReads log
+pub only_anchors : (log : Option (List Call)) (images : List ImageRead) → IfSome log (λ l. l ≡ anchor_reads images) → stage.TellsOnlyReads log
 only_anchors log images made all known =
     let same : all ≡ anchor_reads images = read_before log (anchor_reads images) made all known in
-    only_reading all (subst OnlyReads (sym same) (anchors_only_read images))
+    subst OnlyReads (sym same) (anchors_only_read images)
 
 module _ {B : Type 0} (ghosts : bank_of.Ghosts B) (bank : B) (op : Opening) (images : List ImageRead) (script : ScriptState) (limit : ℕ)
     (first last : Seen B) (end : DriveEnd) (reads : HasReadAnchors (bank_told ghosts bank) images)
@@ -106,7 +82,7 @@ module _ {B : Type 0} (ghosts : bank_of.Ghosts B) (bank : B) (op : Opening) (ima
       let count = grown.4 in
       let none = is.no_calls in
       let counted = since.counted in
-      let same : run ≡ grown.1 = same_back since.before run grown.0 grown.1 (sym since.joined ∙ grown.3) (omega (arith, count, none, counted)) in
+      let same : run ≡ grown.1 = same_behind since.before run grown.0 grown.1 (sym since.joined ∙ grown.3) (omega (arith, count, none, counted)) in
       let made : grown.0 ≡ anchor_reads images = read_before (ghosts.log bank) (anchor_reads images) reads grown.0 (ap ghosts.log (sym is.bank_kept) ∙ grown.2) in
       grown.3 ∙ ap (λ xs. xs ++ grown.1) made ∙ ap (λ xs. anchor_reads images ++ xs) (sym same)
 
@@ -152,18 +128,20 @@ module _ {B : Type 0} (ghosts : bank_of.Ghosts B) (bank : B) (op : Opening) (ima
         no_room limit (length last.journal) last.calls
             (subst (λ room. (nat_lt room (length last.journal + 4) || nat_le (2 ^ 48) last.calls) ≡ true) (follows.room ∙ is.room) by.full),
       )
-      at (Member d) by still = rose_at_all (ghosts.faults_of first.bank d.0) (ghosts.faults_of last.bank d.0) (kept.cause live d.0 by)
+      at (Member d) by still = rose_later 0 (ghosts.faults_of first.bank d.0) (ghosts.faults_of last.bank d.0) (omega arith) (kept.cause live d.0 by)
 
     pub leaves : KeepsForm (start_of o) (asked_by script) last.calls last.journal
         → ((all : List Call) → ghosts.log last.bank ≡ Some all → (run : List Call) × IsSince last.calls all run × KeepsLaws o (asked_by script) (ghosts.opening last.bank) run last.journal
         × (AsksRows script.ops → AllStill last → IsLeftClean (start_of o) run last.journal))
         → (AsksRows script.ops → AllStill last → HasComeToRest (start_of o) script.ops last.journal)
         → ((actor : Action) → is_still (setting_of last.given) last.control actor ≡ false → HasComeToRest (start_of o) script.ops last.journal → ⊥)
-        → ((all run : List Call) → ghosts.log last.bank ≡ Some all → IsSince last.calls all run → EndsAtFailure run last.control.failed)
+        → ((all run : List Call) → ghosts.log last.bank ≡ Some all → IsSince last.calls all run → EndsAtFailure run last.journal last.control.failed)
+        → BeginsWithRoom last.room last.journal
         → LeavesRun o (asked_by script) limit (anchor_reads images) (bank_told ghosts last.bank) last.journal end
-    leaves form laws rests works fails = record {
+    leaves form laws rests works fails room = record {
       calls = last.calls;
       form = form;
+      room = subst (λ most. BeginsWithRoom most last.journal) (follows.room ∙ is.room) room;
       cause = ended (rests rows) works;
       told = if_told _ (ghosts.log last.bank) (λ all known.
           let it = laws all known in
@@ -172,7 +150,7 @@ module _ {B : Type 0} (ghosts : bank_of.Ghosts B) (bank : B) (op : Opening) (ima
             joined = behind all known it.0 it.1;
             counted = it.1.counted;
             laws = it.2;
-            failed = subst (EndsAtFailure it.0) failed_on (fails all it.0 known it.1);
+            failed = subst (EndsAtFailure it.0 last.journal) failed_on (fails all it.0 known it.1);
             clean = λ all_done. it.3 rows (over all_done);
           });
     }

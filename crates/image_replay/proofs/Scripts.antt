@@ -1,7 +1,8 @@
 -- A script that was taken, and names the first volume alone, is one that a run takes.
-use Rattle.std.proofs.Common.{◌≡◌, ℕ, ◌<◌, ◌≤◌, ◌==◌, ◌&&◌, ◌||◌, nat_lt, Bool, true, false, List, [], ◌∷◌, refl, arith}
+use Rattle.std.proofs.Common.{◌≡◌, ℕ, ◌<◌, ◌≤◌, ◌==◌, ◌&&◌, nat_lt, Bool, true, false, List, [], ◌∷◌, refl, arith}
 use Rattle.std.specs.List.{AllByRecursion, list_all}
 use Rattle.std.proofs.lemmas.Bool.Decides.{nat_tests}
+use Rattle.std.proofs.lemmas.Bool.{or_parts}
 use Rattle.array_model.specs.declared.script.Op.{Op}
 use Rattle.array_model.specs.declared.script.OpKind.{OpKind}
 use Rattle.array_model.specs.declared.script.OpKind.TheVariants.{Write, Read, Whole}
@@ -19,10 +20,6 @@ row_kind (Whole v) named = absurd named
 pub asks_rows : (ops : List Op) → AllByRecursion IsOperation ops → AsksRows ops
 asks_rows [] each = tt
 asks_rows (op ∷ ops) each = (row_kind op.kind each.0.row, asks_rows ops each.1)
-
-neither : (a b : Bool) → (a || b) ≡ false → (a ≡ false) × (b ≡ false)
-neither true b is = absurd (cc is)
-neither false b is = (refl, is)
 
 zero_of : (n : ℕ) → n < 2 → (n == 1) ≡ false → (n == 0) ≡ true
 zero_of n below other = grind (arith, nat_tests, below, other)
@@ -44,5 +41,5 @@ both false b c x y z = absurd (cc x)
 pub asks_first : (ops : List Op) → AllByRecursion IsOperation ops → asks_second ops ≡ false → list_all is_first_op ops ≡ true
 asks_first [] each none = refl
 asks_first (op ∷ ops) each none =
-    let apart = neither (volume_named op.kind == 1) (asks_second ops) none in
+    let apart = or_parts (volume_named op.kind == 1) (asks_second ops) none in
     both (nat_lt op.client 16) (is_in_first op.kind) (list_all is_first_op ops) (low_client op.client each.0.client) (first_kind op.kind each.0.row apart.0) (asks_first ops each.1 apart.1)

@@ -1,12 +1,12 @@
 -- The lines of a replay but for those of its journal. Source: this project's own.
 use Rattle.std.specs.Prelude.{ℕ, List, ◌++◌, codes, slice_index_or}
-use Rattle.imsm_base.specs.declared.units.Serial.{Serial}
+use Rattle.units.specs.declared.disk.Serial.{Serial}
 use Rattle.array_model.specs.declared.journal.Entry.{Entry}
 use Rattle.journal_text.specs.Lines.{journal_text}
 use Rattle.stage.specs.declared.ends.DriveEnd.{DriveEnd}
 use Rattle.stage.specs.declared.ends.DriveEnd.TheVariants.{Over, Full, Member}
 use Rattle.image_verdict.specs.Images.{blank_serial}
-use Rattle.image_lines.specs.Lines.{failed_member_line}
+use Rattle.image_outside.specs.Lines.{failed_member_line}
 
 -- an operation names a volume that the container doesn't have
 abbrev pub absent_volume_line : List ℕ

@@ -1,6 +1,6 @@
 -- What a run leaves, of a script on a bank whose disks held a container. Source: this project's own.
 use Rattle.std.specs.Prelude.{◌≡◌, ℕ, ◌+◌, ◌^◌, ◌<◌, ◌≤◌, ◌⊎◌, List, ◌++◌, length, Option, Some, None, IfSome}
-use Rattle.imsm_base.specs.declared.units.Sector.{Sector}
+use Rattle.units.specs.declared.disk.Sector.{Sector}
 use Rattle.device_log.specs.Log.{Call}
 use Rattle.member_bank.specs.Faults.{Rose}
 use Rattle.array_model.specs.declared.journal.Entry.{Entry}
@@ -9,6 +9,7 @@ use Rattle.array_model.specs.Script.{Asked}
 use Rattle.array_model.specs.Start.{Start}
 use Rattle.array_model.specs.Rests.{HasComeToRest}
 use Rattle.array_model.specs.FailureLaw.{EndsAtFailure}
+use Rattle.array_model.specs.Room.{BeginsWithRoom}
 use Rattle.first_opening.specs.Opened.{Opened}
 use Rattle.stage.specs.declared.ends.DriveEnd.{DriveEnd}
 use Rattle.stage.specs.declared.ends.DriveEnd.TheVariants.{Over, Full, Member}
@@ -38,14 +39,16 @@ pub record LeavesCalls (o : Opened) (asked : Asked) (contents : Option (List (Li
   pub joined : log ≡ before ++ run
   pub counted : length run ≡ calls
   pub laws : KeepsLaws o asked contents run journal
-  pub failed : EndsAtFailure run (failed_disk ended)
+  pub failed : EndsAtFailure run journal (failed_disk ended)
   pub clean : ended ≡ Over → IsLeftClean (start_of o) run journal
 
--- What a run leaves of a bank on which these calls were made before. Its journal has the form of one, and each entry
--- has its cause. Where the bank tells its log, the run's calls stand behind those before, and keep the laws.
+-- What a run leaves of a bank on which these calls were made before. Its journal has the form of one, each entry has
+-- its cause, and each turn began with room for four. Where the bank tells its log, the run's calls stand behind those
+-- before, and keep the laws.
 pub record LeavesRun (o : Opened) (asked : Asked) (limit : ℕ) (before : List Call) (bank : BankTold)
     (journal : List Entry) (ended : DriveEnd) : Type 0 where
   pub calls : ℕ
   pub form : KeepsForm (start_of o) asked calls journal
+  pub room : BeginsWithRoom limit journal
   pub cause : HasEnded (start_of o) asked.ops limit calls bank.faults journal ended
   pub told : IfSome bank.log (λ log. LeavesCalls o asked bank.opening before log calls journal ended)

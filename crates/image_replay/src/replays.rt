@@ -4,10 +4,10 @@ ghost use Rattle.std.specs.List.{list_all};
 ghost use Rattle.first_opening.specs.Opened.{is_first_op};
 ghost use Rattle.stage_law.specs.Runs.{AsksRows};
 ghost use Rattle.image_outside.specs.Endings.{Ends, EndsIfMemory, Prints};
-ghost use Rattle.image_outside.specs.Outside.{Adds, BreaksOff};
+ghost use Rattle.image_outside.specs.Outside.{Adds};
 ghost use Rattle.image_outside.specs.Shelves.{HasOnlyReads, IsUncalled};
 ghost use Rattle.image_outside.specs.Told.{bank_told};
-ghost use Rattle.image_outside.specs.Views.{sink_told};
+ghost use Rattle.image_outside.specs.Views.{sink_told, WriteBreaksOff};
 ghost use Rattle.run_script.specs.Within.{IsWithin};
 ghost use Rattle.image_verdict.specs.Images.{blank_serial, serials_of_all, HasReadAnchors, IsFoundOn};
 ghost use Rattle.image_start.specs.Starts.{Starts};
@@ -18,14 +18,13 @@ ghost use Rattle.image_replay.specs.Replays.{Replays, ReplaysBy};
 use crate::lines::write_journal;
 use crate::runs::{Finished, run};
 use array_model::{Entry, OpKind, Script};
-use image_lines::write_line;
-use image_outside::{Sink, Status, end, end_without_memory, status_after, write_all};
+use image_outside::{Sink, Status, end, end_without_memory, status_after, write_all, write_line};
 use image_verdict::{ImageRead, print_report, read_images, report_on};
-use imsm_base::{DiskNo, SERIAL_BYTES, Serial, VolNo};
 use imsm_text::Word;
 use member_bank::{Bank, Failed};
 use stage::{DriveEnd, StageFault};
 use std::alloc::Global;
+use units::{DiskNo, SERIAL_BYTES, Serial, VolNo};
 
 /// The volume that an operation names.
 fn volume_of(kind: OpKind) -> VolNo
@@ -68,8 +67,7 @@ fn serial_of(images: &[ImageRead], d: DiskNo) -> Serial
 fn write_end<K: Sink>(sink: &mut K, end: DriveEnd, images: &[ImageRead]) -> Result<(), Failed>
     ensures ok { OnOk result (Adds (K.written sink.old) (K.written sink.new)
         (end_line (serials_of_all images.now) end)) }
-    ensures err { OnErr result (BreaksOff (K.written sink.old) (K.written sink.new)
-        (K.faults_of sink.old) (K.faults_of sink.new) (end_line (serials_of_all images.now) end)) }
+    ensures err { OnErr result (WriteBreaksOff K.Sink sink.old sink.new (end_line (serials_of_all images.now) end)) }
 {
     match end {
         DriveEnd::Over => write_all(sink, b"done\n"),
@@ -87,8 +85,8 @@ fn write_run<K: Sink>(
 ) -> Result<(), Failed>
     ensures ok { OnOk result (Adds (K.written sink.old) (K.written sink.new)
         (run_text (serials_of_all images.now) entries.now end)) }
-    ensures err { OnErr result (BreaksOff (K.written sink.old) (K.written sink.new)
-        (K.faults_of sink.old) (K.faults_of sink.new) (run_text (serials_of_all images.now) entries.now end)) }
+    ensures err { OnErr result (WriteBreaksOff K.Sink sink.old sink.new
+        (run_text (serials_of_all images.now) entries.now end)) }
 {
     write_journal(sink, entries)?;
     write_end(sink, end, images)

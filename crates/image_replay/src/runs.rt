@@ -1,7 +1,7 @@
 //! A run of a script, from its opening to its end.
 ghost use Rattle.std.specs.Prelude.{◌≡◌, ◌≤◌, ◌^◌, true, List, IfOk, IfErr};
 ghost use Rattle.std.specs.List.{list_all};
-ghost use Rattle.imsm_base.specs.declared.units.Sector.{Sector};
+ghost use Rattle.units.specs.declared.disk.Sector.{Sector};
 ghost use Rattle.member_bank.specs.Told.{Keeps};
 ghost use Rattle.array_model.specs.Kept.{asked_by};
 ghost use Rattle.first_opening.specs.Opened.{is_first_op};

@@ -1,21 +1,18 @@
 -- What a command asks for is carried out: from what is done on its images to the promise.
-use Rattle.std.proofs.Common.{◌≡◌, ◌≤◌, ℕ, List, [], length, Option, Some, None, inl, inr, sym, subst, ◌∙◌, ap, arith}
+use Rattle.std.proofs.Common.{◌≡◌, ◌≤◌, ℕ, List, length, Option, Some, inl, inr, sym, subst, ◌∙◌, ap, arith}
 use Rattle.std.specs.Option.{IsSomeAnd}
-use Rattle.std.specs.Prelude.{IfSome}
-use Rattle.imsm_base.specs.declared.bounds.TheConstants.{MAX_DISKS}
-use Rattle.imsm_base.specs.declared.units.Serial.{Serial}
-use Rattle.device_log.specs.Log.{Call}
+use Rattle.units.specs.declared.bounds.TheConstants.{MAX_DISKS}
+use Rattle.units.specs.declared.disk.Serial.{Serial}
 use Rattle.new_container.proofs.Whole.{few_disks}
-use Rattle.image_outside.specs.Outside.{OnlyReads}
 use Rattle.image_outside.specs.Told.{BankTold, ShelfTold}
-use Rattle.image_outside.specs.Shelves.{HasOnlyReads, IsFresh, IsUncalled, IsUnused}
+use Rattle.image_outside.specs.Shelves.{IsFresh}
 use Rattle.image_outside.specs.Endings.{Ends, EndsIfMemory, Prints}
 use Rattle.image_outside.proofs.Ended.{ends_so}
 use Rattle.image_words.specs.Args.{Asks}
 use Rattle.image_words.specs.Words.{ImageWord, IsCommand, IsPastLimit, IsWithinLimit, serials_named}
 use Rattle.image_words.specs.declared.verbs.Verb.{Verb}
 use Rattle.image_words.specs.declared.verbs.Verb.TheVariants as verbs
-use Rattle.image_run.specs.Does.{Does, IsUntouched}
+use Rattle.image_run.specs.Does.{Does}
 use Rattle.image_run.specs.Openings.{OpensAll, OpensFresh}
 use Rattle.image_run.specs.Outside.{Outside}
 use Rattle.image_run.specs.Requests.{Request, NotWords, TooManyImages, Assemble, Examine, Create, Replay, IsAsked, request_of}
@@ -44,19 +41,6 @@ held_fresh held lent names is fresh = subst (λ (h : Option BankTold). IsSomeAnd
 pub held_back : (held : Option BankTold) (now : BankTold) (names : List Serial) (P : BankTold → Type 0) → held ≡ Some now → now.serials ≡ names → P now → IsSomeAnd held (λ bank. (bank.serials ≡ names) × P bank)
 held_back held now names P is same so = subst (λ (h : Option BankTold). IsSomeAnd h (λ bank. (bank.serials ≡ names) × P bank)) (sym is) (same, so)
 
--- a bank that made no call made no write
-uncalled_log : (log : Option (List Call)) → IfSome log (λ calls. calls ≡ []) → IfSome log OnlyReads
-uncalled_log None none = tt
-uncalled_log (Some calls) none = subst OnlyReads (sym none) tt
-
-pub uncalled_reads : (held : Option BankTold) → IsSomeAnd held IsUncalled → IsSomeAnd held HasOnlyReads
-uncalled_reads None none = absurd none
-uncalled_reads (Some bank) none = uncalled_log bank.log none
-
-unused_reads : (held : Option BankTold) → IsSomeAnd held IsUnused → IsSomeAnd held HasOnlyReads
-unused_reads None unused = absurd unused
-unused_reads (Some bank) unused = uncalled_log bank.log unused.fresh
-
 -- THE COMMANDS
 
 -- what was done to the images of a command, without the source
@@ -69,18 +53,6 @@ carries request before after One status does leaves (inr (is, memory)) = inr (is
 pub carries_line : (request : Request) (before after : Outside) (lines : List ℕ) (status result : ℕ) → ((told : List ℕ) (s : ℕ) → Prints lines status told s → Does request before after told s)
     → Ends before.sink after.sink (Prints lines status) result → Carries request before after result
 carries_line request before after lines status result does ends = inl (ends_so before.sink after.sink (Prints lines status) (Does request before after) result does ends)
-
-reads_after : (before after : Outside) → IsUntouched before after → IsSomeAnd before.shelf.bank IsUnused → IsSomeAnd after.shelf.bank HasOnlyReads
-reads_after before after same unused = subst (λ (shelf : ShelfTold). IsSomeAnd shelf.bank HasOnlyReads) (sym same.shelf) (unused_reads before.shelf.bank unused)
-
--- what is left of the outside where memory ran out before anything was opened
-pub leaves_all : (request : Request) (before after : Outside) → IsUntouched before after → IsSomeAnd before.shelf.bank IsUnused → Leaves request before after
-leaves_all NotWords before after same unused = same
-leaves_all TooManyImages before after same unused = same
-leaves_all (Assemble images) before after same unused = (same.source, reads_after before after same unused)
-leaves_all (Examine images) before after same unused = (same.source, reads_after before after same unused)
-leaves_all (Create made images) before after same unused = (same.source, reads_after before after same unused)
-leaves_all (Replay limit images) before after same unused = reads_after before after same unused
 
 -- THE WORDS
 

@@ -4,41 +4,34 @@ use Rattle.std.specs.Prelude.{IfSome, nat_le, nat_lt, replicate}
 use Rattle.std.specs.List.{AllByRecursion, list_all}
 use Rattle.std.specs.Option.{IsSomeAnd, option_map}
 use Rattle.std.specs.Str.{bytes_eq}
-use Rattle.std.proofs.lemmas.Bool.{false≢true}
+use Rattle.std.proofs.lemmas.Bool.{false≢true, and_parts}
 use Rattle.std.proofs.lemmas.Bool.Decides.{nat_tests}
-use Rattle.std.proofs.lemmas.List.{take_more, map-append, append-nil}
+use Rattle.std.proofs.lemmas.List.{take_more, map-append}
 use Rattle.std.proofs.lemmas.List.Elements.{All-from_recursion}
 use Rattle.std.proofs.lemmas.Slice.Eq.{bytes_eq-Decides}
-use Rattle.imsm_base.specs.declared.bounds.TheConstants.{SERIAL_BYTES}
-use Rattle.imsm_base.specs.declared.units.Serial.{Serial}
+use Rattle.units.specs.declared.bounds.TheConstants.{SERIAL_BYTES}
+use Rattle.units.specs.declared.disk.Serial.{Serial}
 use Rattle.device_log.specs.Log.{Call}
 use Rattle.member_bank.specs.Faults.{Rose}
 use Rattle.member_bank.specs.Told.{Keeps}
 use Rattle.image_outside.specs.Outside.{IsNew}
 use Rattle.member_bank.specs.declared.Bank as bank
 use Rattle.image_outside.specs.Told.{BankTold, ShelfTold, bank_told}
-use Rattle.image_outside.specs.Shelves.{HasOneMore, IsFresh, IsUncalled, IsUnused}
+use Rattle.image_outside.specs.Shelves.{HasOneMore, IsFresh}
 use Rattle.image_words.specs.declared.words.ImageArg.{ImageArg}
 use Rattle.image_words.specs.Words.{ImageWord, IsImageWord, is_name, is_name_byte, is_apart_from, are_distinct, serial_named, serials_named}
 use Rattle.image_words.specs.Args.{word_of, words_of}
 use Rattle.image_words.proofs.Names.{bytes_of_name}
 use Rattle.image_run.specs.Lines.{open_line}
 use Rattle.image_run.specs.Openings.{OpensAll, OpensFresh, OpensNot, paths_named}
-
-and_left : (a b : Bool) → (a && b) ≡ true → a ≡ true
-and_left true b both = refl
-and_left false b both = both
-
-and_right : (a b : Bool) → (a && b) ≡ true → b ≡ true
-and_right true b both = both
-and_right false b both = absurd (false≢true both)
+use Rattle.image_words.proofs.Grammar.{length-words}
 
 short_test : (n : ℕ) → nat_le n SERIAL_BYTES ≡ true → n ≤ SERIAL_BYTES
 short_test n is = grind (arith, nat_tests)
 
 pub short_name : (name : List ℕ) → is_name name ≡ true → length name ≤ SERIAL_BYTES
 short_name name named =
-    short_test (length name) (and_right (nat_le 1 (length name)) _ (and_left (nat_le 1 (length name) && nat_le (length name) SERIAL_BYTES) _ named))
+    short_test (length name) (and_parts (nat_le 1 (length name)) _ (and_parts (nat_le 1 (length name) && nat_le (length name) SERIAL_BYTES) _ named).0).1
 
 pub arg_at : (images : List ImageArg) (k : ℕ) (d : ImageArg) → AllByRecursion IsImageWord (words_of images) → k < length images → IsImageWord (word_of (get_or images k d))
 arg_at [] k d each below = absurd (omega arith)
@@ -52,25 +45,25 @@ no_zero c byte is = false≢true (subst (λ (b : ℕ). is_name_byte b ≡ true) 
 padded_same : (xs ys : List ℕ) (n m : ℕ) → list_all is_name_byte xs ≡ true → list_all is_name_byte ys ≡ true → xs ++ replicate n 0 ≡ ys ++ replicate m 0 → xs ≡ ys
 padded_same [] [] n m names others same = refl
 padded_same [] (y ∷ ys) zero m names others same = absurd (cc)
-padded_same [] (y ∷ ys) (suc n) m names others same = absurd (no_zero y (and_left _ _ others) (cc))
+padded_same [] (y ∷ ys) (suc n) m names others same = absurd (no_zero y (and_parts _ _ others).0 (cc))
 padded_same (x ∷ xs) [] n zero names others same = absurd (cc)
-padded_same (x ∷ xs) [] n (suc m) names others same = absurd (no_zero x (and_left _ _ names) (cc))
+padded_same (x ∷ xs) [] n (suc m) names others same = absurd (no_zero x (and_parts _ _ names).0 (cc))
 padded_same (x ∷ xs) (y ∷ ys) n m names others same =
     let first : x ≡ y = cc in
-    let rest : xs ≡ ys = padded_same xs ys n m (and_right (is_name_byte x) _ names) (and_right (is_name_byte y) _ others) (cc) in
+    let rest : xs ≡ ys = padded_same xs ys n m (and_parts (is_name_byte x) _ names).1 (and_parts (is_name_byte y) _ others).1 (cc) in
     cc
 
 serial_apart : (w v : ImageWord) → IsImageWord w → IsImageWord v → is_apart_from w v ≡ true → serial_named w ≢ serial_named v
 serial_apart w v one other apart same =
     let names : w.name ≡ v.name = padded_same w.name v.name (SERIAL_BYTES - length w.name) (SERIAL_BYTES - length v.name) (bytes_of_name w.name one.named) (bytes_of_name v.name other.named) (ap (λ (s : Serial). s.0) same) in
     let equal : bytes_eq v.name w.name ≡ true = (bytes_eq-Decides v.name w.name).1 (sym names) in
-    let left : not (bytes_eq v.name w.name) ≡ true = and_left (not (bytes_eq v.name w.name)) _ apart in
+    let left : not (bytes_eq v.name w.name) ≡ true = (and_parts (not (bytes_eq v.name w.name)) _ apart).0 in
     false≢true (sym (ap not equal) ∙ left)
 
 tested_at : (ws : List ImageWord) (p : ImageWord → Bool) (k : ℕ) (d : ImageWord) → list_all p ws ≡ true → k < length ws → p (get_or ws k d) ≡ true
 tested_at [] p k d all below = absurd (omega arith)
-tested_at (w ∷ ws) p zero d all below = and_left (p w) _ all
-tested_at (w ∷ ws) p (suc k) d all below = tested_at ws p k d (and_right (p w) _ all) (omega arith)
+tested_at (w ∷ ws) p zero d all below = (and_parts (p w) _ all).0
+tested_at (w ∷ ws) p (suc k) d all below = tested_at ws p k d (and_parts (p w) _ all).1 (omega arith)
 
 word_valid : (ws : List ImageWord) (k : ℕ) (d : ImageWord) → AllByRecursion IsImageWord ws → k < length ws → IsImageWord (get_or ws k d)
 word_valid [] k d each below = absurd (omega arith)
@@ -82,17 +75,13 @@ new_serial : (ws : List ImageWord) (k : ℕ) (d : ImageWord) → AllByRecursion 
 new_serial [] k d each distinct below = absurd (omega arith)
 new_serial (w ∷ ws) zero d each distinct below = tt
 new_serial (w ∷ ws) (suc k) d each distinct below =
-    let apart : is_apart_from w (get_or ws k d) ≡ true = tested_at ws (is_apart_from w) k d (and_left (list_all (is_apart_from w) ws) _ distinct) (omega arith) in
-    (serial_apart w (get_or ws k d) each.0 (word_valid ws k d each.1 (omega arith)) apart, new_serial ws k d each.1 (and_right (list_all (is_apart_from w) ws) _ distinct) (omega arith))
+    let apart : is_apart_from w (get_or ws k d) ≡ true = tested_at ws (is_apart_from w) k d (and_parts (list_all (is_apart_from w) ws) _ distinct).0 (omega arith) in
+    (serial_apart w (get_or ws k d) each.0 (word_valid ws k d each.1 (omega arith)) apart, new_serial ws k d each.1 (and_parts (list_all (is_apart_from w) ws) _ distinct).1 (omega arith))
 
 word_get : (images : List ImageArg) (k : ℕ) (d : ImageArg) → get_or (words_of images) k (word_of d) ≡ word_of (get_or images k d)
 word_get [] k d = refl
 word_get (i ∷ images) zero d = refl
 word_get (i ∷ images) (suc k) d = word_get images k d
-
-pub words_length : (images : List ImageArg) → length (words_of images) ≡ length images
-words_length [] = refl
-words_length (i ∷ images) = ap suc (words_length images)
 
 -- what is so of the bank of a shelf is so of it weakened
 pub opens_weaker : {images : List ImageWord} {before after : ShelfTold} {P Q : BankTold → Type 0} → ((bank : BankTold) → P bank → Q bank) → OpensAll images before after P → OpensAll images before after Q
@@ -102,25 +91,6 @@ opens_weaker {images} {before} {after} {P} {Q} weaker opens = record { paths = o
     weak None holds = absurd holds
     weak (Some bank) holds = (holds.0, weaker bank holds.1)
 
-no_disk : (d : ℕ) (serials : List Serial) → serials ≡ [] → d < length serials → ⊥
-no_disk d serials empty below = omega (arith, ap length empty, below)
-
--- a shelf on which nothing was opened has opened no images
-pub opens_none : (shelf : ShelfTold) → IsSomeAnd shelf.bank IsUnused → OpensFresh [] shelf shelf
-opens_none shelf unused = record { paths = sym (append-nil shelf.paths); bank = none shelf.bank unused }
-  where
-    none : (held : Option BankTold) → IsSomeAnd held IsUnused → IsSomeAnd held (λ bank. (bank.serials ≡ serials_named []) × IsFresh [] bank)
-    none None holds = absurd holds
-    none (Some bank) holds = (holds.empty, record { named = holds.empty; fresh = holds.fresh; sound = λ d below. absurd (no_disk d bank.serials holds.empty below) })
-
--- on a bank of opened images no call was made
-pub uncalled : (images : List ImageWord) (before after : ShelfTold) → OpensFresh images before after → IsSomeAnd after.bank IsUncalled
-uncalled images before after opens = none after.bank opens.bank
-  where
-    none : (held : Option BankTold) → IsSomeAnd held (λ bank. (bank.serials ≡ serials_named images) × IsFresh (serials_named images) bank) → IsSomeAnd held IsUncalled
-    none None holds = absurd holds
-    none (Some bank) holds = holds.1.fresh
-
 -- the serial of image k is new to a bank that has those before it
 pub is_new : (held : Option BankTold) (images : List ImageArg) (k : ℕ) (d : ImageArg) (serial : Serial)
     → AllByRecursion IsImageWord (words_of images) → are_distinct (words_of images) ≡ true → k < length images → serial ≡ serial_named (word_of (get_or images k d))
@@ -128,7 +98,7 @@ pub is_new : (held : Option BankTold) (images : List ImageArg) (k : ℕ) (d : Im
     → IfSome held (λ bank. IsNew serial bank.serials)
 is_new None images k d serial each distinct below is holds = tt
 is_new (Some b) images k d serial each distinct below is holds =
-    let inside : k < length (words_of images) = omega (arith, words_length images) in
+    let inside : k < length (words_of images) = omega (arith, length-words images) in
     let same : serial ≡ serial_named (get_or (words_of images) k (word_of d)) = is ∙ ap serial_named (sym (word_get images k d)) in
     subst (λ (xs : List Serial). IsNew serial xs) (sym holds.0)
     (subst (λ (s : Serial). IsNew s (serials_named (take k (words_of images)))) (sym same)
@@ -165,7 +135,7 @@ one_more_opened before old new images k d serial path below is path_is opens lis
     words = words_of images
 
     inside : k < length words
-    inside = omega (arith, words_length images)
+    inside = omega (arith, length-words images)
 
     here : get_or words k (word_of d) ≡ word_of (get_or images k d)
     here = word_get images k d
@@ -205,7 +175,7 @@ opens_not images k d name before after below is rose opens = record {
   image = word_of (get_or images k d);
   rest = drop (suc k) (words_of images);
   are = subst (λ (w : ImageWord). words_of images ≡ take k (words_of images) ++ w ∷ drop (suc k) (words_of images)) (word_get images k d)
-      (split_at (words_of images) k (word_of d) (omega (arith, words_length images)));
+      (split_at (words_of images) k (word_of d) (omega (arith, length-words images)));
   opened = opens_weaker (λ bank fresh. fresh.fresh) opens;
   cause = rose;
   status_is = refl;

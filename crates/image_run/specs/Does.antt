@@ -22,7 +22,8 @@ pub record IsUntouched (before after : Outside) : Type 0 where
   pub source : after.source ≡ before.source
 
 -- an image couldn't be opened, or all were, and on their bank this was done
-abbrev pub OnImages : List ImageWord → (before after : ShelfTold) → (BankTold → List ℕ → ℕ → Type 0) → List ℕ → ℕ → Type 0
+abbrev pub OnImages : List ImageWord → (before after : ShelfTold) → (BankTold → List ℕ → ℕ → Type 0)
+    → List ℕ → ℕ → Type 0
 OnImages images before after Does lines status =
     OpensNot images before after lines status ⊎ OpensAll images before after (λ bank. Does bank lines status)
 
@@ -39,7 +40,8 @@ pub record Stops (images : List ImageWord) (before after : Outside) (lines : Lis
   pub prints : Prints (stop_line stop) (stop_status stop) lines status
 
 -- the images were opened, the script that the source had was read to its end, and replayed on them
-pub record Replays (limit : ℕ) (images : List ImageWord) (before after : Outside) (lines : List ℕ) (status : ℕ) : Type 0 where
+pub record Replays (limit : ℕ) (images : List ImageWord) (before after : Outside) (lines : List ℕ)
+    (status : ℕ) : Type 0 where
   pub script : ScriptState
   pub taken : TakesScript before.source after.source script
   pub opened : OpensAll images before.shelf after.shelf (λ bank. ReplaysBy script limit bank lines status)

@@ -1,7 +1,7 @@
 -- The line of a command that ends before it looked at a disk. Source: this project's own.
 use Rattle.std.specs.Prelude.{ℕ, ◌+◌, List, [], ◌∷◌, codes}
 use Rattle.std.specs.Fmt.{decimal}
-use Rattle.imsm_base.specs.declared.bounds.TheConstants.{MAX_DISKS}
+use Rattle.units.specs.declared.bounds.TheConstants.{MAX_DISKS}
 use Rattle.imsm_text.specs.Text.{line}
 
 -- the words aren't in the grammar

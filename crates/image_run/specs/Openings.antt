@@ -11,13 +11,14 @@ use Rattle.image_run.specs.Lines.{open_line}
 abbrev pub paths_named : List ImageWord → List (List ℕ)
 paths_named images = map (λ (image : ImageWord). image.file) images
 
--- The files beside the names were opened, each as the disk of that name, in order, and no others. Of the bank of these disks, as
--- the shelf holds it in the end, this holds.
+-- The files beside the names were opened, each as the disk of that name, in order, and no others. Of the bank of these
+-- disks, as the shelf holds it in the end, this holds.
 pub record OpensAll (images : List ImageWord) (before after : ShelfTold) (P : BankTold → Type 0) : Type 0 where
   pub paths : after.paths ≡ before.paths ++ paths_named images
   pub bank : IsSomeAnd after.bank (λ bank. (bank.serials ≡ serials_named images) × P bank)
 
--- An image couldn't be opened, behind those that were: the line names it, and no call on a disk was made. The shelf counts it.
+-- An image couldn't be opened, behind those that were: the line names it, and no call on a disk was made. The shelf
+-- counts it.
 pub record OpensNot (images : List ImageWord) (before after : ShelfTold) (lines : List ℕ) (status : ℕ) : Type 0 where
   pub front : List ImageWord
   pub image : ImageWord

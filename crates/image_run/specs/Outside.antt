@@ -11,5 +11,7 @@ pub record Outside : Type 0 where
   pub source : SourceTold
   pub sink : SinkTold
 
-abbrev pub outside_told : {H B S K : Type 0} → shelf.Ghosts H B → bank.Ghosts B → source.Ghosts S → sink.Ghosts K → H → S → K → Outside
-outside_told h b s k shelf source sink = record { shelf = shelf_told h b shelf; source = source_told s source; sink = sink_told k sink }
+abbrev pub outside_told : {H B S K : Type 0} → shelf.Ghosts H B → bank.Ghosts B → source.Ghosts S → sink.Ghosts K
+    → H → S → K → Outside
+outside_told h b s k shelf source sink =
+    record { shelf = shelf_told h b shelf; source = source_told s source; sink = sink_told k sink }

@@ -1,12 +1,13 @@
 -- What the words of a command ask for. Source: this project's own.
 use Rattle.std.specs.Prelude.{ℕ, ◌≤◌, List, length}
-use Rattle.imsm_base.specs.declared.bounds.TheConstants.{MAX_DISKS}
+use Rattle.units.specs.declared.bounds.TheConstants.{MAX_DISKS}
 use Rattle.new_container.specs.declared.container.NewContainer.{NewContainer}
 use Rattle.image_words.specs.declared.verbs.Verb.{Verb}
 use Rattle.image_words.specs.declared.verbs.Verb.TheVariants as verbs
 use Rattle.image_words.specs.Words.{ImageWord, IsAssemble, IsCommand, IsCreate, IsExamine, IsPastLimit, IsReplay}
 
--- nothing, as the words aren't in the grammar; nothing, as they name more images than are opened; or one of the commands
+-- nothing, as the words aren't in the grammar; nothing, as they name more images than are opened; or one of the
+-- commands
 pub data Request : Type 0 where
   NotWords : Request
   TooManyImages : Request

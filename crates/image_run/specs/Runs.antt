@@ -1,4 +1,5 @@
--- The promise of the command: what it does with its words, and what is written of its lines. Source: this project's own.
+-- The promise of the command: what it does with its words, and what is written of its lines. Source: this project's
+-- own.
 use Rattle.std.specs.Prelude.{◌≡◌, ℕ, ◌⊎◌, List}
 use Rattle.std.specs.Option.{IsSomeAnd}
 use Rattle.image_outside.specs.Endings.{Ends, EndsWithoutMemory}
@@ -16,8 +17,8 @@ Leaves (Examine images) before after = (after.source ≡ before.source) × IsSom
 Leaves (Create made images) before after = (after.source ≡ before.source) × IsSomeAnd after.shelf.bank HasOnlyReads
 Leaves (Replay limit images) before after = IsSomeAnd after.shelf.bank HasOnlyReads
 
--- It does what was asked for, and all its lines are written; a write fails, with status 6, and a front of them is written; or
--- memory runs out before a disk is written, with status 9, and `memory` is written or a front of it.
+-- It does what was asked for, and all its lines are written; a write fails, with status 6, and a front of them is
+-- written; or memory runs out before a disk is written, with status 9, and `memory` is written or a front of it.
 abbrev pub Carries : Request → (before after : Outside) → (status : ℕ) → Type 0
 Carries request before after status =
     Ends before.sink after.sink (Does request before after) status

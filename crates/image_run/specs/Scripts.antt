@@ -1,4 +1,5 @@
--- The script of a command: the text of a source, or why there is none and the line that says so. Source: this project's own.
+-- The script of a command: the text of a source, or why there is none and the line that says so. Source: this project's
+-- own.
 use Rattle.std.specs.Prelude.{◌≡◌, ℕ, ◌+◌, ◌≤◌, ◌⊎◌, true, List, [], ◌∷◌, length, codes, ⊤}
 use Rattle.std.specs.Fmt.{decimal}
 use Rattle.array_model.specs.Kept.{ScriptState}

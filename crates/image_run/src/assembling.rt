@@ -14,16 +14,17 @@ use crate::opening::open_images;
 use image_outside::{Shelf, Sink, Status, end_without_memory};
 use image_verdict::{print_report, read_images, report_on};
 use image_words::ImageArg;
-use imsm_base::MAX_DISKS;
 use member_bank::Bank;
 use std::alloc::Global;
+use units::MAX_DISKS;
 
 /// Prints what is said of the disks of a bank, of which there are 1 to 16.
 fn assemble<B: Bank, K: Sink>(alloc: Global, bank: &mut B, sink: &mut K) -> Status
     requires fresh { IsUncalled (bank_told B.Bank bank.old) }
     requires some { 1 ≤ length (B.serials bank.old) }
     ensures reads { HasOnlyReads (bank_told B.Bank bank.new) }
-    ensures ends { EndsIfMemory (sink_told K.Sink sink.old) (sink_told K.Sink sink.new) (Reports (bank_told B.Bank bank.new)) result.0 }
+    ensures ends { EndsIfMemory (sink_told K.Sink sink.old) (sink_told K.Sink sink.new)
+        (Reports (bank_told B.Bank bank.new)) result.0 }
     ensures serials { B.serials bank.new ≡ B.serials bank.old }
 {
     match read_images(alloc, bank) {
@@ -44,8 +45,8 @@ pub(crate) fn assemble_images<H: Shelf, K: Sink>(
     requires few { length images.now ≤ MAX_DISKS }
     ensures reads { IsSomeAnd (shelf_told H.Shelf H.Held.Bank shelf.new).bank HasOnlyReads }
     ensures ends { EndsIfMemory (sink_told K.Sink sink.old) (sink_told K.Sink sink.new)
-        (OnImages (words_of images.now) (shelf_told H.Shelf H.Held.Bank shelf.old) (shelf_told H.Shelf H.Held.Bank shelf.new) Reports)
-        result.0 }
+        (OnImages (words_of images.now)
+        (shelf_told H.Shelf H.Held.Bank shelf.old) (shelf_told H.Shelf H.Held.Bank shelf.new) Reports) result.0 }
 {
     if let Err(status) = open_images(alloc, images, shelf, sink) {
         return status;

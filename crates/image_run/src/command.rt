@@ -15,8 +15,8 @@ use crate::examining::examine_image;
 use crate::replaying::replay_images;
 use image_outside::{Shelf, Sink, Source, Status, end, end_without_memory};
 use image_words::{Command, Verb, WordsFault, parse};
-use imsm_base::MAX_DISKS;
 use std::alloc::Global;
+use units::MAX_DISKS;
 
 /// Does what a command asks for.
 fn carry_out<H: Shelf, S: Source, K: Sink>(
@@ -48,15 +48,15 @@ fn carry_out<H: Shelf, S: Source, K: Sink>(
 /// Runs a command: whatever its words ask for is carried out.
 ///
 /// The words are `create`, perhaps `--family H`, the level, strip and size of one volume or two, and words NAME=FILE;
-/// `examine` and one word NAME=FILE; `assemble` and words NAME=FILE, at least one; or `replay`, perhaps `--journal N`, and
-/// words NAME=FILE.
+/// `examine` and one word NAME=FILE; `assemble` and words NAME=FILE, at least one; or `replay`, perhaps `--journal N`,
+/// and words NAME=FILE.
 ///
-/// The status is 0 where the container was made, the block is whole, the volume starts or the replay is done, 1 where the
-/// words are others, 2 where a disk of the container is absent, 3 where an image is too small, no whole block is found, or an
-/// operation names a volume that isn't there, 4 where a line of the script isn't in the grammar, 5 where the script couldn't
-/// be read, 6 where a line couldn't be written, 7 where an image couldn't be opened, 8 where the journal is full, 9 without
-/// memory, 10 where a limit is passed, 13 where a call on a disk failed, and 14 where an image isn't of the form that is
-/// started today.
+/// The status is 0 where the container was made, the block is whole, the volume starts or the replay is done, 1 where
+/// the words are others, 2 where a disk of the container is absent, 3 where an image is too small, no whole block is
+/// found, or an operation names a volume that isn't there, 4 where a line of the script isn't in the grammar, 5 where
+/// the script couldn't be read, 6 where a line couldn't be written, 7 where an image couldn't be opened, 8 where the
+/// journal is full, 9 without memory, 10 where a limit is passed, 13 where a call on a disk failed, and 14 where an
+/// image isn't of the form that is started today.
 pub fn image_main<H: Shelf, S: Source, K: Sink>(
     alloc: Global,
     words: &[String],

@@ -14,9 +14,9 @@ use crate::opening::open_images;
 use image_create::create;
 use image_outside::{Shelf, Sink, Status};
 use image_words::ImageArg;
-use imsm_base::MAX_DISKS;
 use new_container::NewContainer;
 use std::alloc::Global;
+use units::MAX_DISKS;
 
 /// Opens the images, and makes a container over them.
 pub(crate) fn create_images<H: Shelf, K: Sink>(
@@ -32,7 +32,8 @@ pub(crate) fn create_images<H: Shelf, K: Sink>(
     requires fits { container_fits made.now (length images.now) ≡ true }
     ensures unmade { result.0 ≡ 9 → IsSomeAnd (shelf_told H.Shelf H.Held.Bank shelf.new).bank HasOnlyReads }
     ensures ends { EndsIfMemory (sink_told K.Sink sink.old) (sink_told K.Sink sink.new)
-        (OnImages (words_of images.now) (shelf_told H.Shelf H.Held.Bank shelf.old) (shelf_told H.Shelf H.Held.Bank shelf.new)
+        (OnImages (words_of images.now)
+        (shelf_told H.Shelf H.Held.Bank shelf.old) (shelf_told H.Shelf H.Held.Bank shelf.new)
         (CreatesBy made.now)) result.0 }
 {
     if let Err(status) = open_images(alloc, images, shelf, sink) {

@@ -27,8 +27,8 @@ pub(crate) fn examine_image<H: Shelf, K: Sink>(
     requires one { length images.now ≡ 1 }
     ensures reads { IsSomeAnd (shelf_told H.Shelf H.Held.Bank shelf.new).bank HasOnlyReads }
     ensures ends { EndsIfMemory (sink_told K.Sink sink.old) (sink_told K.Sink sink.new)
-        (OnImages (words_of images.now) (shelf_told H.Shelf H.Held.Bank shelf.old) (shelf_told H.Shelf H.Held.Bank shelf.new) Examines)
-        result.0 }
+        (OnImages (words_of images.now)
+        (shelf_told H.Shelf H.Held.Bank shelf.old) (shelf_told H.Shelf H.Held.Bank shelf.new) Examines) result.0 }
 {
     if let Err(status) = open_images(alloc, images, shelf, sink) {
         return status;

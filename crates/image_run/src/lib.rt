@@ -1,4 +1,7 @@
-//! A command over images: what it does and what it prints.
+//! The command: its words are read, its images opened, and what the words ask for is done and printed.
+//!
+//! It owes one clause, on `image_main`: what it finds outside, the words and the status lead to what it leaves there
+//! (`docs/PROMISE.md` reads it as a page). `imsm_tool` is this call over files, standard input and standard output.
 #![tactic(auto)]
 
 mod assembling;

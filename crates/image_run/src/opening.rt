@@ -10,12 +10,11 @@ ghost use Rattle.image_words.specs.Words.{IsImageWord, are_distinct};
 ghost use Rattle.image_words.specs.Args.{words_of};
 ghost use Rattle.image_run.specs.Openings.{OpensFresh, OpensNot};
 
-use image_lines::end_line;
-use image_outside::{Shelf, ShelfFault, Sink, Status, end_without_memory};
+use image_outside::{Shelf, ShelfFault, Sink, Status, end_line, end_without_memory};
 use image_words::ImageArg;
-use imsm_base::MAX_DISKS;
 use imsm_text::Word;
 use std::alloc::Global;
+use units::MAX_DISKS;
 
 /// Why not all images were opened.
 #[derive(Clone, Copy, Debug, PartialEq, Eq)]
@@ -70,8 +69,8 @@ pub fn open_images<H: Shelf, K: Sink>(
         (shelf_told H.Shelf H.Held.Bank shelf.old) (shelf_told H.Shelf H.Held.Bank shelf.new)) }
     ensures silent { OnOk result (sink.new ≡ sink.old) }
     ensures ends { IfErr result (λ status. EndsIfMemory (sink_told K.Sink sink.old) (sink_told K.Sink sink.new)
-        (OpensNot (words_of images.now) (shelf_told H.Shelf H.Held.Bank shelf.old) (shelf_told H.Shelf H.Held.Bank shelf.new))
-        status.0) }
+        (OpensNot (words_of images.now)
+        (shelf_told H.Shelf H.Held.Bank shelf.old) (shelf_told H.Shelf H.Held.Bank shelf.new)) status.0) }
 {
     match open_all(alloc, images, shelf) {
         Ok(()) => Ok(()),

@@ -18,8 +18,8 @@ use array_model::Script;
 use image_outside::{Shelf, Sink, Source, Status};
 use image_replay::replay;
 use image_words::ImageArg;
-use imsm_base::MAX_DISKS;
 use std::alloc::Global;
+use units::MAX_DISKS;
 
 /// Replays a script on the disks that a shelf holds, which are those of these images.
 fn replay_on<H: Shelf, K: Sink>(
@@ -31,7 +31,8 @@ fn replay_on<H: Shelf, K: Sink>(
     sink: &mut K,
 ) -> Status
     requires some { 1 ≤ length images.now }
-    requires fresh { IsSomeAnd (shelf_told H.Shelf H.Held.Bank shelf.old).bank (IsFresh (serials_named (words_of images.now))) }
+    requires fresh { IsSomeAnd (shelf_told H.Shelf H.Held.Bank shelf.old).bank
+        (IsFresh (serials_named (words_of images.now))) }
     requires limit { limit ≤ 2 ^ 20 }
     requires script { IsWithin script.now }
     ensures unrun { result.0 ≡ 9 → IsSomeAnd (shelf_told H.Shelf H.Held.Bank shelf.new).bank HasOnlyReads }
@@ -60,7 +61,8 @@ pub(crate) fn replay_images<H: Shelf, S: Source, K: Sink>(
     requires limit { limit ≤ 2 ^ 20 }
     ensures unrun { result.0 ≡ 9 → IsSomeAnd (shelf_told H.Shelf H.Held.Bank shelf.new).bank HasOnlyReads }
     ensures ends { EndsIfMemory (sink_told K.Sink sink.old) (sink_told K.Sink sink.new)
-        (ReplayEnds limit (words_of images.now) (outside_told H.Shelf H.Held.Bank S.Source K.Sink shelf.old source.old sink.old)
+        (ReplayEnds limit (words_of images.now)
+        (outside_told H.Shelf H.Held.Bank S.Source K.Sink shelf.old source.old sink.old)
         (outside_told H.Shelf H.Held.Bank S.Source K.Sink shelf.new source.new sink.new)) result.0 }
 {
     if let Err(status) = open_images(alloc, images, shelf, sink) {

@@ -6,8 +6,9 @@ ghost use Rattle.image_outside.specs.Views.{sink_told, source_told};
 ghost use Rattle.image_run.specs.Scripts.{IsScript, IsStopped, StopsBy, TakesScript, kind_word, limit_word, stop_line, stop_status};
 
 use array_model::Script;
-use image_lines::end_line;
-use image_outside::{Sink, Source, SourceFault, Status, end, end_without_memory, read_all};
+use image_outside::{
+    Sink, Source, SourceFault, Status, end, end_line, end_without_memory, read_all,
+};
 use imsm_text::Word;
 use run_script::{LimitKind, LineKind, ScriptFault, parse_script};
 use std::alloc::Global;
@@ -29,9 +30,11 @@ pub enum ScriptStop {
 
 /// Reads a source to its end, and the script that it is.
 pub(crate) fn read_script<S: Source>(alloc: Global, source: &mut S) -> Result<Script, ScriptStop>
-    ensures taken { IfOk result (λ script. TakesScript (source_told S.Source source.old) (source_told S.Source source.new) script) }
+    ensures taken { IfOk result (λ script.
+        TakesScript (source_told S.Source source.old) (source_told S.Source source.new) script) }
     ensures within { IfOk result (λ script. IsWithin script) }
-    ensures stopped { IfErr result (λ stop. StopsBy (source_told S.Source source.old) (source_told S.Source source.new) stop) }
+    ensures stopped { IfErr result (λ stop.
+        StopsBy (source_told S.Source source.old) (source_told S.Source source.new) stop) }
 {
     let text = match read_all(alloc, source) {
         Ok(text) => text,

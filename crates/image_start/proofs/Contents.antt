@@ -3,13 +3,14 @@ use Rattle.std.proofs.Common.{◌≡◌, ℕ, zero, suc, ◌+◌, ◌-◌, ◌<�
 use Rattle.std.specs.Prelude.{IfSome}
 use Rattle.std.specs.List.{AllByRecursion, list_all}
 use Rattle.std.proofs.lemmas.List.{length-append, length-replicate}
-use Rattle.imsm_base.specs.declared.units.Sector.{Sector}
+use Rattle.units.specs.declared.disk.Sector.{Sector}
 use Rattle.imsm_base.specs.Layout.{serial_of}
-use Rattle.imsm_base.specs.Whole.{IsWholeDisk, anchor_place}
+use Rattle.imsm_base.specs.Whole.{IsWholeDisk}
+use Rattle.units.specs.Places.{anchor_place}
 use Rattle.imsm_base.specs.FirstForm.{IsFirstForm}
 use Rattle.imsm_base.specs.Parts.{block_in}
 use Rattle.imsm_codec.specs.Given.{given_block}
-use Rattle.array_model.specs.Meaning.{has_serial}
+use Rattle.block_meaning.specs.Meaning.{has_serial}
 use Rattle.control_state.specs.Seen.{no_sector}
 use Rattle.first_opening.specs.Opened.{IsOpening, block_of, serial_at}
 use Rattle.image_verdict.specs.declared.images.ImageRead.{ImageRead}
@@ -17,7 +18,8 @@ use Rattle.image_verdict.specs.Reports.{Holds, bytes_of_all, first_block}
 use Rattle.image_verdict.specs.Images.{StandIn, sizes_of_all, serials_of_all}
 use Rattle.image_start.specs.Starts.{IsStarted, Starts}
 use Rattle.image_start.specs.Openings.{first_anchor, opened_on}
-use Rattle.image_start.proofs.Images.{IsAt, IsFirst, IsRead, all-hold, all-there, are-apart, first-image, holds-at, image-at, is-read, length-serials, none-absent}
+use Rattle.image_start.proofs.Images.{IsAt, IsFirst, HasAnchorRead, all-hold, all-there, are-apart, first-image, holds-at, image-at, is-read, length-serials, none-absent}
+use Rattle.first_opening.proofs.Numbers.{slice_get-behind}
 
 -- WHAT THE LAWS TAKE AS GIVEN
 
@@ -47,7 +49,7 @@ anchored-at : (images : List ImageRead) (contents : List (List Sector)) (d : ℕ
 anchored-at images contents d s stand below =
     let block : List ℕ = first_block images in
     let at : IsAt images d = image-at images d (omega (arith, below, length-serials images)) in
-    let read : IsRead block at.image = is-read block at.image (holds-at block images d at.image (all-hold images s.started) at.there) in
+    let read : HasAnchorRead block at.image = is-read block at.image (holds-at block images d at.image (all-hold images s.started) at.there) in
     subst (λ (o : Option Sector). IsSomeAnd o (λ a. given_block a.0 ≡ given_block (first_anchor images).0)) (sym (stands-at images contents d stand at read.anchor read.was)) (read.block_is ∙ sym (block-is images contents s))
 
 read-at : (images : List ImageRead) (contents : List (List Sector)) → Starts images → StandIn images contents
@@ -84,10 +86,6 @@ is-opening images contents s stand =
 abbrev pub filled : ImageRead → List Sector
 filled i = replicate (i.sectors - 2) no_sector ++ unwrap_or i.anchor no_sector ∷ no_sector ∷ []
 
-behind : {X : Type 0} (n : ℕ) (z x : X) (xs : List X) → slice_get (replicate n z ++ x ∷ xs) n ≡ Some x
-behind zero z x xs = refl
-behind (suc n) z x xs = behind n z x xs
-
 length-filled : (block : List ℕ) (i : ImageRead) → Holds block i → i.sectors ≡ length (filled i)
 length-filled block i holds =
     let enough : 18 ≤ i.sectors = holds.first.whole.enough in
@@ -110,9 +108,9 @@ anchor-filled : (images : List ImageRead) (d : ℕ) (image : ImageRead) → IsSt
     → slice_get (slice_index_or (map filled images) d []) (anchor_place image.sectors) ≡ image.anchor
 anchor-filled images d image started there =
     let block : List ℕ = first_block images in
-    let read : IsRead block image = is-read block image (holds-at block images d image (all-hold images started) there) in
+    let read : HasAnchorRead block image = is-read block image (holds-at block images d image (all-hold images started) there) in
     ap (λ (sectors : List Sector). slice_get sectors (anchor_place image.sectors)) (filled-at images d image there)
-    ∙ behind (image.sectors - 2) no_sector (unwrap_or image.anchor no_sector) (no_sector ∷ [])
+    ∙ slice_get-behind (image.sectors - 2) no_sector (unwrap_or image.anchor no_sector) (no_sector ∷ [])
     ∙ ap (λ (o : Option Sector). Some (unwrap_or o no_sector)) read.was
     ∙ sym read.was
 

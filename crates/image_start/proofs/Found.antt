@@ -5,13 +5,14 @@ use Rattle.std.specs.Option.{option_map_or}
 use Rattle.std.proofs.lemmas.Bool.{and_parts, leb-true}
 use Rattle.std.proofs.lemmas.List.{length-take}
 use Rattle.std.proofs.lemmas.Option.{slice_get-get_or}
-use Rattle.imsm_base.specs.declared.bounds.TheConstants.{FIRST_GENERATION_REFUSED, SECTOR_BYTES}
-use Rattle.imsm_base.specs.declared.units.Level.{Level}
-use Rattle.imsm_base.specs.declared.units.Sector.{Sector}
+use Rattle.units.specs.declared.bounds.TheConstants.{FIRST_GENERATION_REFUSED, SECTOR_BYTES}
+use Rattle.units.specs.declared.volume.Level.{Level}
+use Rattle.units.specs.declared.disk.Sector.{Sector}
 use Rattle.imsm_base.specs.Fields.{Part, number_at}
 use Rattle.imsm_base.specs.Layout.{Block, Volume, disk_count_of, generation_of, map_count_of, member_count_of, pba_of, serial_of, size_of, strip_of, volume_count_of, volume_size_of}
 use Rattle.imsm_base.specs.Parts.{block_in}
-use Rattle.imsm_base.specs.Volumes.{first_map, has_geometry, member, rows_of}
+use Rattle.imsm_base.specs.Volumes.{first_map, has_geometry, member}
+use Rattle.units.specs.Levels.{rows_of}
 use Rattle.imsm_base.specs.Whole.{IsWholeBlock}
 use Rattle.imsm_base.proofs.Apart.{length-volumes}
 use Rattle.imsm_base.proofs.Spliced.{number_at-take}
@@ -21,9 +22,9 @@ use Rattle.imsm_codec.specs.Mpb.{blank_volume, disk_at, map_at, volume_at}
 use Rattle.imsm_codec.proofs.Mirror.{two_members}
 use Rattle.imsm_codec.proofs.Places.{some_map}
 use Rattle.array_model.specs.Blocks.{SlotWords}
-use Rattle.array_model.specs.Meaning.{bytes_of_laid, slot_words}
+use Rattle.block_meaning.specs.Meaning.{bytes_of_laid, slot_words}
 use Rattle.array_model.specs.Placement.{Shape}
-use Rattle.block_words.specs.Reading.{block_words}
+use Rattle.block_meaning.specs.Reading.{block_words}
 use Rattle.control_state.specs.Book.{IsBook, laid_at}
 use Rattle.first_opening.specs.Opened.{IsOpening, Opened, block_of, disks_in_slot, members_of, targets_of}
 use Rattle.first_opening.proofs.Found.{bytes-are, found, target-below, targets-are, two-records}
@@ -37,6 +38,7 @@ use Rattle.image_start.specs.Openings.{IsMirrorShape, first_anchor, first_shape,
 use Rattle.image_start.proofs.Images.{length-serials, length-sizes, none-absent, none-left}
 use Rattle.image_start.proofs.Contents.{a-bank, block-is, contents_of}
 use Rattle.image_start.proofs.Numbers.{in-slot, is-named, record-passes}
+use Rattle.block_meaning.proofs.Renewal.{generation-at}
 
 abbrev bank : List ImageRead → Opened
 bank images = opened_on images (contents_of images)
@@ -221,10 +223,6 @@ is-book images bytes s is laid =
 pub block-in-anchor : (images : List ImageRead) → Starts images → bytes_of_laid (laid_at (first_anchor images)) ≡ first_block images
 block-in-anchor images s = bytes-are (bank images) ∙ block-is images (contents_of images) s
 
-generation-at : (bytes : List ℕ) → generation_of (block_in bytes) ≡ number_at 4 44 bytes
-unfolding block_in
-generation-at bytes = refl
-
 pub early : (images : List ImageRead) → Starts images → block_words.generation (first_anchor images) < FIRST_GENERATION_REFUSED
 early images s =
     let o : Opened = bank images in
@@ -235,5 +233,5 @@ early images s =
     let cut = length-take n o.anchor.0 in
     let least : 216 ≤ size_of (block_in (block_of o)) = whole.sized.least in
     let same : generation_of (block_in (block_of o)) ≡ number_at 4 44 o.anchor.0 =
-    generation-at (block_of o) ∙ number_at-take 4 44 n o.anchor.0 (omega (arith, len, cut, least)) in
+    sym (generation-at (block_of o)) ∙ number_at-take 4 44 n o.anchor.0 (omega (arith, len, cut, least)) in
     subst (λ (g : ℕ). g < FIRST_GENERATION_REFUSED) same is.first.startable

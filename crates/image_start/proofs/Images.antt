@@ -4,19 +4,20 @@ use Rattle.std.specs.List.{AllByRecursion, AllPairs, list_all}
 use Rattle.std.proofs.lemmas.Bool.{and_from, cases_lt}
 use Rattle.std.proofs.lemmas.List.{length-map}
 use Rattle.std.proofs.lemmas.Option.{slice_get_within}
-use Rattle.imsm_base.specs.declared.units.Sector.{Sector}
-use Rattle.imsm_base.specs.declared.units.Serial.{Serial}
+use Rattle.units.specs.declared.disk.Sector.{Sector}
+use Rattle.units.specs.declared.disk.Serial.{Serial}
 use Rattle.imsm_base.specs.Whole.{AreApart}
 use Rattle.imsm_base.specs.Layout.{Block, serial_of}
 use Rattle.imsm_base.specs.Parts.{block_in}
 use Rattle.imsm_codec.specs.Given.{given_block}
-use Rattle.array_model.specs.Meaning.{has_serial}
+use Rattle.block_meaning.specs.Meaning.{has_serial}
 use Rattle.control_state.specs.Seen.{no_sector}
 use Rattle.image_verdict.specs.declared.images.ImageRead.{ImageRead}
 use Rattle.image_verdict.specs.Reports.{Holds, absent, anchor_block, bytes_of_all, first_block, is_there}
 use Rattle.image_verdict.specs.Images.{sizes_of_all, serials_of_all}
 use Rattle.image_start.specs.Starts.{AreDistinct, IsStarted}
 use Rattle.image_start.specs.Openings.{anchor_read, first_anchor}
+use Rattle.units.proofs.Serials.{same_serial}
 
 -- AN IMAGE OF A NUMBER
 
@@ -52,15 +53,15 @@ holds-at block (i ∷ is) (suc d) image all there = holds-at block is d image al
 
 -- WHAT WAS READ OF IT
 
-pub record IsRead (block : List ℕ) (image : ImageRead) : Type 0 where
+pub record HasAnchorRead (block : List ℕ) (image : ImageRead) : Type 0 where
   pub anchor : Sector
   pub was : image.anchor ≡ Some anchor
   pub block_is : anchor_block anchor ≡ block
 
-pub is-read : (block : List ℕ) (image : ImageRead) → Holds block image → IsRead block image
+pub is-read : (block : List ℕ) (image : ImageRead) → Holds block image → HasAnchorRead block image
 is-read block image holds = at image.anchor refl holds.anchored
   where
-    at : (o : Option Sector) → image.anchor ≡ o → IsSomeAnd o (λ a. anchor_block a ≡ block) → IsRead block image
+    at : (o : Option Sector) → image.anchor ≡ o → IsSomeAnd o (λ a. anchor_block a ≡ block) → HasAnchorRead block image
     at (Some a) was is = record { anchor = a; was = was; block_is = is }
     at None was is = absurd is
 
@@ -83,7 +84,7 @@ pub first-image : (images : List ImageRead) → 1 ≤ length images → IsStarte
 first-image images some started =
     let at : IsAt images 0 = image-at images 0 (omega arith) in
     let holds : Holds (first_block images) at.image = holds-at (first_block images) images 0 at.image (all-hold images started) at.there in
-    let read : IsRead (first_block images) at.image = is-read (first_block images) at.image holds in
+    let read : HasAnchorRead (first_block images) at.image = is-read (first_block images) at.image holds in
     let same : first_anchor images ≡ read.anchor = ap anchor_read at.there ∙ ap (λ (o : Option Sector). anchor_of o) read.was in
     record {
       image = at.image;
@@ -98,12 +99,9 @@ first-image images some started =
 
 -- SERIALS
 
-same-serial : (x y : Serial) → x.0 ≡ y.0 → x ≡ y
-same-serial x y e = ap (λ (bytes : List ℕ). let s : Serial = record { 0 = bytes } in s) e
-
 first-apart : (x : Serial) (xs : List Serial) → ((j : ℕ) (d : Serial) → j < length xs → x ≢ slice_index_or xs j d) → AllByRecursion (λ y. x.0 ≢ y) (bytes_of_all xs)
 first-apart x [] apart = tt
-first-apart x (y ∷ ys) apart = (λ e. apart 0 x (omega arith) (same-serial x y e), first-apart x ys (λ j d below. apart (suc j) d (omega (arith, below))))
+first-apart x (y ∷ ys) apart = (λ e. apart 0 x (omega arith) (same_serial x y e), first-apart x ys (λ j d below. apart (suc j) d (omega (arith, below))))
 
 all-apart : (xs : List Serial) → AllPairs (λ a b. a ≢ b) xs → AreApart (bytes_of_all xs)
 all-apart [] apart = tt
@@ -125,7 +123,7 @@ never-alike images d p distinct less at other same =
     let none : Serial = at.image.serial in
     let below : p < length (serials_of_all images) = subst (λ (n : ℕ). p < n) (sym (length-map images (λ (i : ImageRead). i.serial))) (slice_get_within images p other.image other.there) in
     distinct d p none less below (
-    serial-of images d at.image none at.there ∙ same-serial at.image.serial other.image.serial same
+    serial-of images d at.image none at.there ∙ same_serial at.image.serial other.image.serial same
     ∙ sym (serial-of images p other.image none other.there))
 
 -- an image is told by its serial

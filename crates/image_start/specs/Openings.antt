@@ -1,11 +1,11 @@
 -- What a stage is opened with, of images that start: the opening of a bank as the laws see it. Source: this project's
 -- own.
 use Rattle.std.specs.Prelude.{◌≡◌, List, slice_get, Option, Some, None, unwrap_or}
-use Rattle.imsm_base.specs.declared.units.Level.TheVariants.{One}
-use Rattle.imsm_base.specs.declared.units.Sector.{Sector}
+use Rattle.units.specs.declared.volume.Level.TheVariants.{One}
+use Rattle.units.specs.declared.disk.Sector.{Sector}
 use Rattle.imsm_codec.specs.Mpb.{block_bytes}
 use Rattle.array_model.specs.Placement.{Shape}
-use Rattle.block_words.specs.Reading.{block_words}
+use Rattle.block_meaning.specs.Reading.{block_words}
 use Rattle.control_state.specs.Seen.{numbers, no_sector}
 use Rattle.first_opening.specs.Opened.{Opened, block_of, newest_of, targets_of, members_of}
 use Rattle.stage.specs.declared.open.Opening.{Opening}

@@ -2,8 +2,8 @@
 use Rattle.std.specs.Prelude.{◌≢◌, ℕ, ◌≤◌, List, length}
 use Rattle.std.specs.List.{AllPairs}
 use Rattle.arrayvec.specs.ArrayVec.{ArrayVec}
-use Rattle.imsm_base.specs.declared.bounds.TheConstants.{MAX_DISKS}
-use Rattle.imsm_base.specs.declared.units.Serial.{Serial}
+use Rattle.units.specs.declared.bounds.TheConstants.{MAX_DISKS}
+use Rattle.units.specs.declared.disk.Serial.{Serial}
 use Rattle.image_verdict.specs.declared.images.ImageRead.{ImageRead}
 use Rattle.image_verdict.specs.declared.report.Report.TheVariants.{Started}
 use Rattle.image_verdict.specs.Reports.{IsReport}

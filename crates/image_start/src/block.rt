@@ -6,8 +6,8 @@ ghost use Rattle.image_start.specs.Starts.{Starts};
 ghost use Rattle.image_start.specs.Openings.{first_anchor};
 
 use image_verdict::ImageRead;
-use imsm_base::Sector;
 use imsm_codec::{MpbRef, check};
+use units::Sector;
 
 /// The anchor of the first image.
 pub(crate) fn first_anchor(images: &[ImageRead]) -> &Sector

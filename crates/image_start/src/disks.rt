@@ -2,10 +2,10 @@
 ghost use Rattle.std.specs.Prelude.{◌≡◌, ◌<◌, ◌≤◌, ℕ, List, length, position, true, Some};
 ghost use Rattle.std.specs.List.{range_with_len};
 ghost use Rattle.std.specs.Str.{bytes_eq};
-ghost use Rattle.imsm_base.specs.declared.units.Sector.{Sector as SectorBytes};
+ghost use Rattle.units.specs.declared.disk.Sector.{Sector as SectorBytes};
 ghost use Rattle.imsm_base.specs.Volumes.{member};
 ghost use Rattle.imsm_codec.specs.Mpb.{block_bytes, block_of, volume_at};
-ghost use Rattle.array_model.specs.Meaning.{slot_words};
+ghost use Rattle.block_meaning.specs.Meaning.{slot_words};
 ghost use Rattle.control_state.specs.Seen.{numbers};
 ghost use Rattle.first_opening.specs.Opened.{targets_of, members_of};
 ghost use Rattle.image_verdict.specs.Reports.{first_block, is_there};
@@ -15,8 +15,8 @@ ghost use Rattle.image_start.specs.Openings.{opened_on};
 
 use arrayvec::ArrayVec;
 use image_verdict::ImageRead;
-use imsm_base::{DiskNo, MAX_DISKS, Serial, Slot, VolNo};
 use imsm_codec::MpbRef;
+use units::{DiskNo, MAX_DISKS, Serial, Slot, VolNo};
 
 /// The low bits of a slot's entry, the index of its disk's record.
 const INDEX_RANGE: u32 = 1 << 24;

@@ -1,8 +1,8 @@
 //! What a stage is opened with.
 ghost use Rattle.std.specs.Prelude.{◌≤◌, ◌<◌, List, length};
-ghost use Rattle.imsm_base.specs.declared.units.Sector.{Sector as SectorBytes};
+ghost use Rattle.units.specs.declared.disk.Sector.{Sector as SectorBytes};
 ghost use Rattle.imsm_codec.specs.Mpb.{block_bytes};
-ghost use Rattle.block_words.specs.Reading.{block_words};
+ghost use Rattle.block_meaning.specs.Reading.{block_words};
 ghost use Rattle.control_state.specs.Book.{IsBook, IsBlockOf};
 ghost use Rattle.control_state.specs.Seen.{numbers};
 ghost use Rattle.first_opening.specs.Opened.{IsOpening};
@@ -14,8 +14,8 @@ ghost use Rattle.image_start.specs.Openings.{IsMirrorShape, Opens, first_shape, 
 use crate::block::{first_anchor, first_block};
 use crate::disks::{members_of, targets_of};
 use image_verdict::ImageRead;
-use imsm_base::{MAX_DISKS, VolNo};
 use stage::Opening;
+use units::{MAX_DISKS, VolNo};
 
 /// What a stage over the bank of these images is opened with, where their volume starts. It takes no memory.
 pub fn opening_of(images: &[ImageRead]) -> Opening<'_>

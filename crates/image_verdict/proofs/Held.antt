@@ -1,26 +1,8 @@
 -- An image that holds a block of the first form.
-use Rattle.std.proofs.Common.{◌≡◌, ◌<◌, ℕ, zero, suc, List, [], ◌∷◌, ◌++◌, Option, Some, None, length, get_or, take, drop, refl, sym, ap, subst, arith}
+use Rattle.std.proofs.Common.{◌≡◌, ◌<◌, ℕ, zero, suc, List, [], ◌∷◌, ◌++◌, length, get_or, take, drop, refl, ap, arith}
 use Rattle.std.specs.List.{AllByRecursion}
-use Rattle.std.specs.Option.{IsSomeAnd}
-use Rattle.imsm_base.specs.declared.units.Sector.{Sector}
 use Rattle.image_verdict.specs.declared.images.ImageRead.{ImageRead}
-use Rattle.image_verdict.specs.Reports.{Holds, IsFirstAnchor, IsFirstOther, anchor_block}
-
-pub holds_it : (block : List ℕ) (image : ImageRead) (a : Sector) → Some a ≡ image.anchor → block ≡ anchor_block a → IsFirstAnchor image.serial.0 image.sectors block → Holds block image
-holds_it block image a read is first = record {
-  anchored = subst (λ (o : Option Sector). IsSomeAnd o (λ (x : Sector). anchor_block x ≡ block)) read (sym is);
-  first = first;
-}
-
--- an image that holds a block has that block in its anchor
-anchor_is : (o : Option Sector) (a : Sector) (block : List ℕ) → Some a ≡ o → IsSomeAnd o (λ (x : Sector). anchor_block x ≡ block) → anchor_block a ≡ block
-anchor_is o a block read holds = subst (λ (p : Option Sector). IsSomeAnd p (λ (x : Sector). anchor_block x ≡ block)) (sym read) holds
-
-pub held_block : (block : List ℕ) (image : ImageRead) (a : Sector) → Some a ≡ image.anchor → Holds block image → anchor_block a ≡ block
-held_block block image a read holds = anchor_is image.anchor a block read holds.anchored
-
-pub unread : (block : List ℕ) (image : ImageRead) → None ≡ image.anchor → Holds block image → ⊥
-unread block image none holds = subst (λ (p : Option Sector). IsSomeAnd p (λ (x : Sector). anchor_block x ≡ block)) (sym none) holds.anchored
+use Rattle.image_verdict.specs.Reports.{Holds, IsFirstOther}
 
 -- a list about one of its items
 split_at : (images : List ImageRead) (k : ℕ) (d : ImageRead) → k < length images → images ≡ take k images ++ get_or images k d ∷ drop (suc k) images

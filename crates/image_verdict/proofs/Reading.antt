@@ -1,46 +1,28 @@
 -- Anchors that are read, one disk after the other.
 use Rattle.std.proofs.Common.{◌≡◌, ◌<◌, ◌≤◌, ◌+◌, inl, inr, ℕ, zero, suc, List, [], ◌∷◌, ◌++◌, Bool, true, false, cond, length, map, take, Option, Some, None, refl, sym, ◌∙◌, ap, subst, arith, append_assoc}
-use Rattle.std.specs.Prelude.{IfSome, slice_get, slice_index, slice_index_or, is_some, nat_lt, ◌==◌}
+use Rattle.std.specs.Prelude.{IfSome, slice_get, slice_index, slice_index_or, is_some, nat_lt}
 use Rattle.std.specs.Option.{IsSomeAnd}
 use Rattle.std.proofs.lemmas.Option.{get_or_from_slice_get, slice_get-get_or, slice_get_within}
 use Rattle.std.proofs.lemmas.List.{append-nil, length-append, map-append, take_all}
 use Rattle.std.proofs.lemmas.Grind.{take_at_read}
-use Rattle.imsm_base.specs.declared.bounds.TheConstants.{METADATA_SECTORS}
-use Rattle.imsm_base.specs.declared.units.Sector.{Sector}
-use Rattle.imsm_base.specs.Whole.{anchor_place}
-use Rattle.device_log.specs.Log.{Call, What, Read, Write, Sync}
-use Rattle.device_log.specs.Cells.{Cell, Stands, cell_after, cell_called, cell_at, resting}
+use Rattle.units.specs.declared.bounds.TheConstants.{METADATA_SECTORS}
+use Rattle.units.specs.declared.disk.Sector.{Sector}
+use Rattle.units.specs.Places.{anchor_place}
+use Rattle.device_log.specs.Log.{Call, Read, OnlyReads}
+use Rattle.device_log.specs.Cells.{Cell, Stands, cell_after, resting}
 use Rattle.member_bank.specs.Told.{Keeps, LogsAll, Gives}
-use Rattle.image_outside.specs.Outside.{OnlyReads, IsRead}
-use Rattle.image_outside.specs.Shelves.{HasOnlyReads, IsUncalled}
+use Rattle.image_outside.specs.Shelves.{HasOnlyReads}
 use Rattle.image_outside.specs.Told.{BankTold}
 use Rattle.image_verdict.specs.declared.images.ImageRead.{ImageRead}
 use Rattle.image_verdict.specs.Images.{anchor_calls, anchor_reads, anchor_reads_from, serials_of_all, sizes_of_all, IsAnchorOn, IsFoundOn, StandIn}
-
--- READS LEAVE A PLACE AS IT IS
-
-cell_read : (d p : ℕ) (c : Cell) (what : What) (went : Bool) → IsRead what → cell_at p c what went ≡ c
-cell_read d p c (Read place) went reads = refl
-cell_read d p c (Write place sectors stored) went reads = absurd reads
-cell_read d p c Sync went reads = absurd reads
-
-cell_same : (d p : ℕ) (c : Cell) (call : Call) → IsRead call.what → cell_called d p c call ≡ c
-cell_same d p c call reads = at (call.disk == d) where
-  at : (b : Bool) → cond b (cell_at p c call.what call.went) c ≡ c
-  at true = cell_read d p c call.what call.went reads
-  at false = refl
-
-cell_reads : (d p : ℕ) (c : Cell) (log : List Call) → OnlyReads log → cell_after d p c log ≡ c
-cell_reads d p c [] reads = refl
-cell_reads d p c (call ∷ log) reads =
-    ap (λ (k : Cell). cell_after d p k log) (cell_same d p c call reads.0) ∙ cell_reads d p c log reads.1
+use Rattle.device_log.proofs.Cells.{cell_after-reads}
 
 stands_first : (o : List (List Sector)) (log : List Call) (d p : ℕ) (s : Sector) → OnlyReads log → Stands o log d p s
     → slice_get (slice_index_or o d []) p ≡ Some s
 stands_first o log d p s reads = at (slice_get (slice_index_or o d []) p) where
   at : (first : Option Sector) → IsSomeAnd first (λ (f : Sector). (cell_after d p (resting f) log).stood ≡ s) → first ≡ Some s
   at None stands = absurd stands
-  at (Some f) stands = ap (λ (x : Sector). Some x) (sym (ap (λ (c : Cell). c.stood) (cell_reads d p (resting f) log reads)) ∙ stands)
+  at (Some f) stands = ap (λ (x : Sector). Some x) (sym (ap (λ (c : Cell). c.stood) (cell_after-reads d p (resting f) log reads)) ∙ stands)
 
 -- THE CALLS
 
@@ -85,19 +67,6 @@ pub record AreFound (bank : BankTold) (count : ℕ) (images : List ImageRead) : 
   pub stand : (contents : List (List Sector)) (log : List Call) → bank.opening ≡ Some contents → bank.log ≡ Some log
       → (d : ℕ) (image : ImageRead) → slice_get images d ≡ Some image → Stood contents d image
   pub calls : (log : List Call) → bank.log ≡ Some log → log ≡ anchor_reads images
-
-uncalled : (log : Option (List Call)) → IfSome log (λ l. l ≡ []) → (l : List Call) → log ≡ Some l → l ≡ []
-uncalled log fresh l is = subst (λ (x : Option (List Call)). IfSome x (λ l. l ≡ [])) is fresh
-
-pub found_none : (bank : BankTold) → IsUncalled bank → AreFound bank 0 []
-found_none bank fresh = record {
-  counted = refl;
-  named = refl;
-  sized = refl;
-  anchors = λ d image is. absurd (cc is);
-  stand = λ contents log held known d image is. absurd (cc is);
-  calls = uncalled bank.log fresh;
-}
 
 -- what was so of each image is so of one more
 each_more : (P : ℕ → ImageRead → Type 0) (images : List ImageRead) (image : ImageRead) → ((d : ℕ) (i : ImageRead) → slice_get images d ≡ Some i → P d i)

@@ -2,17 +2,13 @@
 use Rattle.std.proofs.Common.{◌≡◌, ◌≤◌, ◌<◌, ◌+◌, ◌∙◌, ℕ, List, [], ◌∷◌, ◌++◌, Bool, true, false, cond, not, length, map, take, get_or, filter, sym, ap, subst, arith}
 use Rattle.std.proofs.lemmas.List.{append-nil, take_more, take_all, length-append, map-append}
 use Rattle.std.proofs.lemmas.List.Elements.{filter-append}
-use Rattle.imsm_base.specs.declared.units.Serial.{Serial}
+use Rattle.units.specs.declared.disk.Serial.{Serial}
 use Rattle.imsm_base.specs.Fields.{Part}
 use Rattle.imsm_base.specs.Layout.{disk_count_of, serial_of}
 use Rattle.imsm_base.specs.Parts.{block_in}
-use Rattle.imsm_base.proofs.Apart.{length-disks_in}
 use Rattle.image_verdict.specs.declared.images.ImageRead.{ImageRead}
 use Rattle.image_verdict.specs.Reports.{absent, bytes_of_all, is_there}
-
-pub table_count : (bytes : List ℕ) → length (block_in bytes).disks ≡ disk_count_of (block_in bytes)
-unfolding block_in
-table_count bytes = length-disks_in _ _
+use Rattle.imsm_codec.proofs.Found.{disks_counted}
 
 abbrev pub missing_of : List ImageRead → List (List ℕ) → List (List ℕ)
 missing_of images serials = filter (λ s. not (is_there images s)) serials
@@ -43,4 +39,4 @@ count_more images k found more s pushed few = subst (λ (x : List Serial). lengt
 pub all_missing : (images : List ImageRead) (bytes : List ℕ) (k : ℕ) (found : List Serial) → disk_count_of (block_in bytes) ≤ k
     → bytes_of_all found ≡ missing_of images (map serial_of (take k (block_in bytes).disks)) → bytes_of_all found ≡ absent images (block_in bytes)
 all_missing images bytes k found all so_far =
-    so_far ∙ ap (λ (x : List Part). missing_of images (map serial_of x)) (take_all k (block_in bytes).disks (omega (arith, table_count bytes)))
+    so_far ∙ ap (λ (x : List Part). missing_of images (map serial_of x)) (take_all k (block_in bytes).disks (omega (arith, disks_counted bytes)))

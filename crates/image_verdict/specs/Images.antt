@@ -1,9 +1,9 @@
 -- The images of a bank, after the anchor of each was read once. Source: this project's own.
 use Rattle.std.specs.Prelude.{◌≡◌, ℕ, suc, ◌<◌, ◌≤◌, ◌⊎◌, nat_lt, if◌then◌else◌, List, [], ◌∷◌, ◌++◌, map, length, replicate, slice_get, slice_index_or, Option, Some, None, IfSome, is_some}
-use Rattle.imsm_base.specs.declared.bounds.TheConstants.{METADATA_SECTORS, SERIAL_BYTES}
-use Rattle.imsm_base.specs.declared.units.Sector.{Sector}
-use Rattle.imsm_base.specs.declared.units.Serial.{Serial}
-use Rattle.imsm_base.specs.Whole.{anchor_place}
+use Rattle.units.specs.declared.bounds.TheConstants.{METADATA_SECTORS, SERIAL_BYTES}
+use Rattle.units.specs.declared.disk.Sector.{Sector}
+use Rattle.units.specs.declared.disk.Serial.{Serial}
+use Rattle.units.specs.Places.{anchor_place}
 use Rattle.device_log.specs.Log.{Call, Read}
 use Rattle.member_bank.specs.Faults.{Rose}
 use Rattle.image_outside.specs.Told.{BankTold}

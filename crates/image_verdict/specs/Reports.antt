@@ -4,8 +4,8 @@ use Rattle.std.specs.Prelude.{◌≡◌, ◌≢◌, ℕ, not, Bool, List, [], �
 use Rattle.std.specs.List.{AllByRecursion, list_any}
 use Rattle.std.specs.Option.{IsSomeAnd, option_map_or}
 use Rattle.std.specs.Str.{bytes_eq}
-use Rattle.imsm_base.specs.declared.units.Sector.{Sector}
-use Rattle.imsm_base.specs.declared.units.Serial.{Serial}
+use Rattle.units.specs.declared.disk.Sector.{Sector}
+use Rattle.units.specs.declared.disk.Serial.{Serial}
 use Rattle.imsm_base.specs.Layout.{Block, family_of, generation_of, serial_of}
 use Rattle.imsm_base.specs.Whole.{IsWholeDisk}
 use Rattle.imsm_base.specs.FirstForm.{IsFirstForm}

@@ -2,7 +2,7 @@
 use Rattle.std.specs.Prelude.{ℕ, Bool, true, false, List, ◌++◌, codes}
 use Rattle.std.specs.List.{flat_map}
 use Rattle.std.specs.Fmt.{decimal}
-use Rattle.imsm_base.specs.declared.units.Serial.{Serial}
+use Rattle.units.specs.declared.disk.Serial.{Serial}
 use Rattle.imsm_text.specs.Text.{hex_number, line_feed, serial_text}
 use Rattle.image_verdict.specs.declared.report.Report.{Report}
 use Rattle.image_verdict.specs.declared.report.Report.TheVariants.{Unbuilt, Waiting, Started}

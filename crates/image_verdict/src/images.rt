@@ -1,16 +1,16 @@
 //! Images as they are found: the anchor of each is read once.
 ghost use Rattle.std.specs.Prelude.{◌≡◌, ◌≢◌, ℕ, ◌<◌, ◌≤◌, Option, Some, length, map, slice_get, slice_index, IfSome, IfOk};
 ghost use Rattle.std.specs.List.{AllPairs};
-ghost use Rattle.imsm_base.specs.declared.units.Sector.{Sector as SectorBytes};
-ghost use Rattle.imsm_base.specs.Whole.{anchor_place};
+ghost use Rattle.units.specs.declared.disk.Sector.{Sector as SectorBytes};
+ghost use Rattle.units.specs.Places.{anchor_place};
 ghost use Rattle.member_bank.specs.Told.{Keeps, LogsAll, Gives};
 ghost use Rattle.image_outside.specs.Told.{bank_told};
 ghost use Rattle.image_outside.specs.Shelves.{HasOnlyReads, IsUncalled};
 ghost use Rattle.image_verdict.specs.Images.{anchor_calls, HasReadAnchors, IsAnchorOn, IsFoundOn};
 
-use imsm_base::{DiskNo, MAX_DISKS, METADATA_SECTORS, Sector, Serial};
 use member_bank::Bank;
 use std::alloc::{AllocError, Global};
+use units::{DiskNo, MAX_DISKS, METADATA_SECTORS, Sector, Serial};
 
 /// An image: the serial under which it was opened, how many sectors it has, and its anchor, the second to last sector,
 /// where that was read.

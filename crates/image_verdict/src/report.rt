@@ -4,7 +4,7 @@ ghost use Rattle.image_verdict.specs.Text.{report_status, starts};
 
 use arrayvec::ArrayVec;
 use image_outside::Status;
-use imsm_base::{MAX_DISKS, Serial};
+use units::{MAX_DISKS, Serial};
 
 /// What is said of images of the first form: the first that isn't one; or which disks of the table are absent; or that
 /// the volume starts, with the disks that are there.

@@ -4,9 +4,9 @@ ghost use Rattle.std.specs.List.{flat_map};
 ghost use Rattle.image_verdict.specs.Text.{family_line, unbuilt_line, absent_line, member_line, started_text, waiting_text, report_text};
 
 use crate::report::Report;
-use imsm_base::Serial;
 use imsm_text::{push_hex_number, push_name, push_number};
 use std::alloc::{AllocError, Global};
+use units::Serial;
 
 fn push_family(out: &mut Vec<u8>, family: u32, generation: u32) -> Result<(), AllocError>
     ensures { OnOk result (out.new.items ≡ out.old.items ++ family_line family generation) }

@@ -13,8 +13,8 @@ ghost use Rattle.image_verdict.specs.Images.{serials_of_all};
 use crate::images::ImageRead;
 use crate::report::Report;
 use arrayvec::ArrayVec;
-use imsm_base::{MAX_DISKS, Sector, Serial};
 use imsm_codec::{MpbRef, check, is_first_form, is_whole_disk};
+use units::{MAX_DISKS, Sector, Serial};
 
 /// The block in an anchor, if it is whole there.
 fn checked(anchor: &Sector) -> Option<MpbRef<'_>>

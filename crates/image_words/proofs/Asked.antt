@@ -1,8 +1,8 @@
 -- The first words tell what a command does in one way.
-use Rattle.std.proofs.Common.{Option, Some, None, IfSome, ◌≡◌, ◌≢◌, ◌&&◌, inl, inr, ℕ, List, [], ◌∷◌, ◌++◌, Bool, true, false, length, map, refl, sym, ◌∙◌, ap, subst, arith}
+use Rattle.std.proofs.Common.{Option, Some, None, IfSome, ◌≡◌, ◌≢◌, ◌&&◌, inl, inr, ℕ, List, [], ◌∷◌, ◌++◌, Bool, true, length, map, refl, sym, ◌∙◌, ap, subst, arith}
 use Rattle.std.specs.Prelude.{not, ◌==◌, nat_le}
 use Rattle.std.specs.List.{AllByRecursion, list_all}
-use Rattle.std.proofs.lemmas.Bool.{false≢true}
+use Rattle.std.proofs.lemmas.Bool.{false≢true, and_parts}
 use Rattle.std.proofs.lemmas.Bool.Decides.{nat_tests}
 use Rattle.image_words.specs.declared.verbs.Verb.{Verb}
 use Rattle.image_words.specs.declared.verbs.Verb.TheVariants.{Assemble, Create, Examine, Replay}
@@ -12,21 +12,13 @@ use Rattle.new_container.specs.declared.container.NewContainer.{NewContainer}
 use Rattle.new_container.specs.declared.volume.NewVolume.{NewVolume}
 use Rattle.image_words.specs.Args.{AreInRange, Asks, Begins, Makes, fits}
 
-and_left : (a b : Bool) → (a && b) ≡ true → a ≡ true
-and_left true b both = refl
-and_left false b both = both
-
-and_right : (a b : Bool) → (a && b) ≡ true → b ≡ true
-and_right true b both = both
-and_right false b both = absurd (false≢true both)
-
 -- a word that names an image has a `=`
 abbrev pub is_other : ℕ → Bool
 is_other c = not (c == 0x3d)
 
 has_equals : (xs ys : List ℕ) → list_all is_other (xs ++ 0x3d ∷ ys) ≡ true → ⊥
 has_equals [] ys all = false≢true all
-has_equals (x ∷ xs) ys all = has_equals xs ys (and_right (is_other x) _ all)
+has_equals (x ∷ xs) ys all = has_equals xs ys (and_parts (is_other x) _ all).1
 
 -- so no image is named by a word without one
 pub no_image_word : (images : List ImageWord) (word : List ℕ) (rest : List (List ℕ)) → list_all is_other word ≡ true → map spelled images ≡ word ∷ rest → ⊥
@@ -96,7 +88,7 @@ replay_asked words given (Create made) images split is =
 
 -- the numbers of the volumes that are made are in their ranges
 volume_in_range : (v : NewVolume) (count : ℕ) → volume_fits v count ≡ true → is_in_range v ≡ true
-volume_in_range v count fit = and_left (is_in_range v) _ fit
+volume_in_range v count fit = (and_parts (is_in_range v) _ fit).0
 
 second_in_range : (second : Option NewVolume) (count : ℕ) → second_fits second count ≡ true → IfSome second (λ v. is_in_range v ≡ true)
 second_in_range None count fit = tt
@@ -104,7 +96,7 @@ second_in_range (Some v) count fit = volume_in_range v count fit
 
 in_range : (made : NewContainer) (count : ℕ) → container_fits made count ≡ true → AreInRange made
 in_range made count fit =
-    (volume_in_range made.first count (and_left (volume_fits made.first count) _ fit), second_in_range made.second count (and_right (volume_fits made.first count) _ fit))
+    (volume_in_range made.first count (and_parts (volume_fits made.first count) _ fit).0, second_in_range made.second count (and_parts (volume_fits made.first count) _ fit).1)
 
 -- the words behind `create` are the container's and the images'
 pub create_asked : (words given : List (List ℕ)) (verb : Verb) (images : List ImageWord) → words ≡ create_word ∷ given → Asks words verb images
@@ -159,9 +151,9 @@ asks words (Create made) images begins named fit =
 pub taken_asks : (words rest : List (List ℕ)) (verb : Verb) (images : List ImageWord) → Begins words verb rest → rest ≡ map spelled images → AllByRecursion IsImageWord images
     → ((nat_le 1 (length images) && are_distinct images) && fits verb (length images)) ≡ true → Asks words verb images
 taken_asks words rest verb images begins found each taken =
-    let apart : (nat_le 1 (length images) && are_distinct images) ≡ true = and_left (nat_le 1 (length images) && are_distinct images) (fits verb (length images)) taken in
-    let some : nat_le 1 (length images) ≡ true = and_left (nat_le 1 (length images)) (are_distinct images) apart in
+    let apart : (nat_le 1 (length images) && are_distinct images) ≡ true = (and_parts (nat_le 1 (length images) && are_distinct images) (fits verb (length images)) taken).0 in
+    let some : nat_le 1 (length images) ≡ true = (and_parts (nat_le 1 (length images)) (are_distinct images) apart).0 in
     let named : AreImages images =
-    record { one = grind (arith, nat_tests, some); each = each; distinct = and_right (nat_le 1 (length images)) (are_distinct images) apart } in
+    record { one = grind (arith, nat_tests, some); each = each; distinct = (and_parts (nat_le 1 (length images)) (are_distinct images) apart).1 } in
     asks words verb images (subst (λ (l : List (List ℕ)). Begins words verb l) found begins) named
-    (and_right (nat_le 1 (length images) && are_distinct images) (fits verb (length images)) taken)
+    (and_parts (nat_le 1 (length images) && are_distinct images) (fits verb (length images)) taken).1

@@ -1,7 +1,7 @@
 -- Words name their images in one way.
-use Rattle.std.proofs.Common.{◌≡◌, ◌<◌, ◌≤◌, ◌+◌, ◌-◌, ◌&&◌, ℕ, suc, zero, List, [], ◌∷◌, ◌++◌, Bool, true, false, length, map, take, drop, get_or, refl, sym, ◌∙◌, ap, subst, arith, drop-drop, length-drop, Result, Err, IsErrAnd}
+use Rattle.std.proofs.Common.{◌≡◌, ◌<◌, ◌≤◌, ◌+◌, ◌-◌, ◌&&◌, ℕ, suc, zero, List, [], ◌∷◌, ◌++◌, Bool, true, length, map, take, drop, get_or, refl, sym, ◌∙◌, ap, subst, arith, drop-drop, length-drop, Result, Err, IsErrAnd}
 use Rattle.std.specs.List.{AllByRecursion, list_all}
-use Rattle.std.proofs.lemmas.Bool.{false≢true}
+use Rattle.std.proofs.lemmas.Bool.{and_parts}
 use Rattle.std.proofs.lemmas.List.{length-map, take_all}
 use Rattle.std.proofs.lemmas.List.Folds.{list_all-map}
 use Rattle.image_words.specs.declared.words.ImageArg.{ImageArg}
@@ -12,14 +12,6 @@ use Rattle.image_words.specs.Args.{Asks, word_of, words_of}
 use Rattle.image_words.proofs.Asked.{asked_images}
 use Rattle.image_words.proofs.Names.{bytes_of_name, not_equals, same_word}
 
-and_left : (a b : Bool) → (a && b) ≡ true → a ≡ true
-and_left true b both = refl
-and_left false b both = both
-
-and_right : (a b : Bool) → (a && b) ≡ true → b ≡ true
-and_right true b both = both
-and_right false b both = absurd (false≢true both)
-
 -- one image is apart from those behind it as the words are
 pub distinct-cons : (image : ImageArg) (others : List ImageArg)
     → are_distinct (words_of (image ∷ others)) ≡ (list_all (λ (o : ImageArg). is_apart_from (word_of image) (word_of o)) others && are_distinct (words_of others))
@@ -28,10 +20,10 @@ distinct-cons image others = ap (λ (b : Bool). b && are_distinct (words_of othe
 -- the first `=` splits
 split_same : (xs ys us vs : List ℕ) → list_all is_name_byte xs ≡ true → list_all is_name_byte us ≡ true → xs ++ 0x3d ∷ ys ≡ us ++ 0x3d ∷ vs → (xs ≡ us) × (ys ≡ vs)
 split_same [] ys [] vs names others same = (refl, (cc))
-split_same [] ys (u ∷ us) vs names others same = absurd (not_equals u (and_left _ _ others) (cc))
-split_same (x ∷ xs) ys [] vs names others same = absurd (not_equals x (and_left _ _ names) (cc))
+split_same [] ys (u ∷ us) vs names others same = absurd (not_equals u (and_parts _ _ others).0 (cc))
+split_same (x ∷ xs) ys [] vs names others same = absurd (not_equals x (and_parts _ _ names).0 (cc))
 split_same (x ∷ xs) ys (u ∷ us) vs names others same =
-    let rest = split_same xs ys us vs (and_right (is_name_byte x) _ names) (and_right (is_name_byte u) _ others) (cc) in
+    let rest = split_same xs ys us vs (and_parts (is_name_byte x) _ names).1 (and_parts (is_name_byte u) _ others).1 (cc) in
     let first : x ≡ u = cc in
     let named : xs ≡ us = rest.0 in
     (cc, rest.1)

@@ -2,8 +2,8 @@
 use Rattle.std.proofs.Common.{◌≡◌, ◌∙◌, ℕ, List, ◌∷◌, ◌++◌, true, map, Option, Some, None, IfSome, refl, sym, ap}
 use Rattle.std.specs.List.{list_all}
 use Rattle.std.specs.Fmt.{decimal}
-use Rattle.imsm_base.specs.declared.units.Level.{Level}
-use Rattle.imsm_base.specs.declared.units.Level.TheVariants.{One, Five, Ten}
+use Rattle.units.specs.declared.volume.Level.{Level}
+use Rattle.units.specs.declared.volume.Level.TheVariants.{One, Five, Ten}
 use Rattle.new_container.specs.declared.volume.NewVolume.{NewVolume}
 use Rattle.new_container.specs.Fits.{is_in_range}
 use Rattle.image_words.specs.Words.{ImageWord, level_word, second_words, spelled, volume_words}

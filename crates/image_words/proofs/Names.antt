@@ -1,19 +1,15 @@
 -- A name has no `=`.
-use Rattle.std.proofs.Common.{◌≡◌, ◌≢◌, ◌<◌, ◌&&◌, ℕ, List, Bool, true, false, length, get_or, subst, refl}
+use Rattle.std.proofs.Common.{◌≡◌, ◌≢◌, ◌<◌, ℕ, List, true, length, get_or, subst, refl}
 use Rattle.std.specs.List.{list_all}
 use Rattle.std.proofs.lemmas.List.Sums.{AllPass-from_list_all}
-use Rattle.std.proofs.lemmas.Bool.{false≢true}
+use Rattle.std.proofs.lemmas.Bool.{false≢true, and_parts}
 use Rattle.image_words.specs.Words.{ImageWord, is_name, is_name_byte}
-
-and_right : (a b : Bool) → (a && b) ≡ true → b ≡ true
-and_right true b both = both
-and_right false b both = absurd (false≢true both)
 
 pub not_equals : (c : ℕ) → is_name_byte c ≡ true → c ≢ 0x3d
 not_equals c byte is = false≢true (subst (λ (b : ℕ). is_name_byte b ≡ true) is byte)
 
 pub bytes_of_name : (name : List ℕ) → is_name name ≡ true → list_all is_name_byte name ≡ true
-bytes_of_name name named = and_right _ (list_all is_name_byte name) named
+bytes_of_name name named = (and_parts _ (list_all is_name_byte name) named).1
 
 pub no_equals : (name : List ℕ) → is_name name ≡ true → (i : ℕ) → i < length name → get_or name i 0 ≢ 0x3d
 no_equals name named i below =

@@ -24,12 +24,14 @@ Asks words (Create made) images = IsCreate words made images
 -- the words of the container that is made, and behind them the rest
 abbrev pub Makes : List (List ℕ) → NewContainer → List (List ℕ) → Type 0
 Makes words made rest =
-    (option : List (List ℕ)) × HasFamily made.family option × (words ≡ option ++ (volume_words made.first ++ (second_words made.second ++ rest)))
+    (option : List (List ℕ)) × HasFamily made.family option
+    × (words ≡ option ++ (volume_words made.first ++ (second_words made.second ++ rest)))
 
 -- the words of what a command does, and behind them the rest
 abbrev pub Begins : List (List ℕ) → Verb → List (List ℕ) → Type 0
 Begins words Assemble rest = words ≡ assemble_word ∷ rest
-Begins words (Replay limit) rest = (option : List (List ℕ)) × HasJournal limit option × (words ≡ replay_word ∷ (option ++ rest))
+Begins words (Replay limit) rest =
+    (option : List (List ℕ)) × HasJournal limit option × (words ≡ replay_word ∷ (option ++ rest))
 Begins words Examine rest = words ≡ examine_word ∷ rest
 Begins words (Create made) rest = (given : List (List ℕ)) × (words ≡ create_word ∷ given) × Makes given made rest
 

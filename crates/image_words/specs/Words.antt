@@ -1,18 +1,18 @@
 -- The words of a command. Source: this project's own.
-use Rattle.std.specs.Prelude.{◌≡◌, ℕ, ◌-◌, ◌^◌, ◌<◌, ◌≤◌, ◌==◌, ◌&&◌, ◌||◌, ◌⊎◌, nat_le, not, Bool, true, List, [], ◌∷◌, ◌++◌, length, map, codes, replicate, Option, Some, None, if◌then◌else◌, String, string_bytes}
-use Rattle.std.specs.Char.{is_ascii_digit}
+use Rattle.std.specs.Prelude.{◌≡◌, ℕ, ◌-◌, ◌^◌, ◌<◌, ◌≤◌, ◌==◌, ◌&&◌, ◌⊎◌, nat_le, not, Bool, true, List, [], ◌∷◌, ◌++◌, length, map, codes, replicate, Option, Some, None, if◌then◌else◌, String, string_bytes}
 use Rattle.std.specs.Str.Parse.{digits_value}
 use Rattle.std.specs.Str.{bytes_eq}
 use Rattle.std.specs.Fmt.{decimal}
 use Rattle.std.specs.declared.alloc.Global.{Global}
 use Rattle.std.specs.List.{AllByRecursion, list_all}
-use Rattle.imsm_base.specs.declared.units.Level.{Level}
-use Rattle.imsm_base.specs.declared.units.Level.TheVariants.{One, Five, Ten}
-use Rattle.imsm_base.specs.declared.units.Serial.{Serial}
-use Rattle.imsm_base.specs.declared.bounds.TheConstants.{MAX_DISKS, SERIAL_BYTES}
+use Rattle.units.specs.declared.volume.Level.{Level}
+use Rattle.units.specs.declared.volume.Level.TheVariants.{One, Five, Ten}
+use Rattle.units.specs.declared.disk.Serial.{Serial}
+use Rattle.units.specs.declared.bounds.TheConstants.{MAX_DISKS, SERIAL_BYTES}
 use Rattle.new_container.specs.declared.container.NewContainer.{NewContainer}
 use Rattle.new_container.specs.declared.volume.NewVolume.{NewVolume}
 use Rattle.new_container.specs.Fits.{container_fits}
+use Rattle.units.specs.Digits.{is_hex_digit}
 
 -- a word NAME=FILE
 pub record ImageWord : Type 0 where
@@ -82,10 +82,6 @@ HasJournal limit option =
 abbrev pub family_word : List ℕ
 family_word = codes "--family"
 
--- a lower-case hexadecimal digit
-abbrev pub is_hex_digit : ℕ → Bool
-is_hex_digit c = is_ascii_digit c || (nat_le 0x61 c && nat_le c 0x66)
-
 -- a word of eight such digits, and the number of a family that it spells
 abbrev pub is_family : List ℕ → Bool
 is_family word = length word == 8 && list_all is_hex_digit word
@@ -134,7 +130,8 @@ pub record IsExamine (words : List (List ℕ)) (images : List ImageWord) : Type 
 pub record IsCreate (words : List (List ℕ)) (made : NewContainer) (images : List ImageWord) : Type 0 where
   pub option : List (List ℕ)
   pub given : HasFamily made.family option
-  pub words_are : words ≡ create_word ∷ (option ++ (volume_words made.first ++ (second_words made.second ++ map spelled images)))
+  pub words_are : words
+      ≡ create_word ∷ (option ++ (volume_words made.first ++ (second_words made.second ++ map spelled images)))
   pub named : AreImages images
   pub fitting : container_fits made (length images) ≡ true
 

@@ -5,8 +5,8 @@ ghost use Rattle.image_words.specs.Args.{Asks, fits, words_of};
 
 use crate::verbs::{Verb, split_verb};
 use crate::words::{ImageArg, WordsFault, are_apart, images_of};
-use imsm_base::MAX_DISKS;
 use std::alloc::Global;
+use units::MAX_DISKS;
 
 /// A command: what it does, and the images that it opens.
 #[derive(Drop)]
@@ -17,7 +17,8 @@ pub struct Command<'a> {
 
 /// Whether images are some, each apart from the others, and as many as fit what is done with them.
 fn are_taken(verb: Verb, images: &[ImageArg<'_>]) -> bool
-    ensures { result ≡ ((nat_le 1 (length images.now) && are_distinct (words_of images.now)) && fits verb (length images.now)) }
+    ensures { result ≡ ((nat_le 1 (length images.now) && are_distinct (words_of images.now))
+        && fits verb (length images.now)) }
 {
     !images.is_empty() && are_apart(images) && verb.fits(images.len())
 }

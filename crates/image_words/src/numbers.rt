@@ -3,7 +3,8 @@ ghost use Rattle.std.specs.Prelude.{◌≡◌, ◌^◌, ◌<◌, ◌≤◌, nat_
 ghost use Rattle.std.specs.Fmt.{decimal};
 ghost use Rattle.std.specs.List.{list_all};
 ghost use Rattle.std.specs.Str.Parse.{IsNumeral, digits_value};
-ghost use Rattle.image_words.specs.Words.{family_of, is_family, is_hex_digit};
+ghost use Rattle.image_words.specs.Words.{family_of, is_family};
+ghost use Rattle.units.specs.Digits.{is_hex_digit};
 
 /// Whether a word begins with a byte above `0`, as digits do that have no sign and no zero in front.
 fn begins_above_zero(word: &str) -> bool

@@ -54,8 +54,10 @@ fn limit_of(word: &str) -> Option<u32>
 
 /// The limit that the first word gives, and the words behind it.
 fn split_limit(words: &[String]) -> Option<(u32, &[String])>
-    ensures some { IfSome result (λ found. (word : List ℕ) × IsLimit found.0 word × (texts words.now ≡ word ∷ texts found.1.now)) }
-    ensures only { (limit : ℕ) (word : List ℕ) (rest : List (List ℕ)) → IsLimit limit word → texts words.now ≡ word ∷ rest
+    ensures some { IfSome result (λ found. (word : List ℕ) × IsLimit found.0 word
+        × (texts words.now ≡ word ∷ texts found.1.now)) }
+    ensures only { (limit : ℕ) (word : List ℕ) (rest : List (List ℕ)) → IsLimit limit word
+        → texts words.now ≡ word ∷ rest
         → IsSomeAnd result (λ found. (found.0 ≡ limit) × (texts found.1.now ≡ rest)) }
 {
     let (word, rest) = words.split_first()?;
@@ -65,9 +67,11 @@ fn split_limit(words: &[String]) -> Option<(u32, &[String])>
 
 /// The limit of a journal that options give, and the words behind them.
 fn split_journal(words: &[String]) -> Option<(u32, &[String])>
-    ensures some { IfSome result (λ found. (option : List (List ℕ)) × HasJournal found.0 option × (texts words.now ≡ option ++ texts found.1.now)) }
-    ensures only { (limit : ℕ) (option : List (List ℕ)) (images : List ImageWord) → HasJournal limit option → AllByRecursion IsImageWord images
-        → texts words.now ≡ option ++ map spelled images → IsSomeAnd result (λ found. (found.0 ≡ limit) × (texts found.1.now ≡ map spelled images)) }
+    ensures some { IfSome result (λ found. (option : List (List ℕ)) × HasJournal found.0 option
+        × (texts words.now ≡ option ++ texts found.1.now)) }
+    ensures only { (limit : ℕ) (option : List (List ℕ)) (images : List ImageWord) → HasJournal limit option
+        → AllByRecursion IsImageWord images → texts words.now ≡ option ++ map spelled images
+        → IsSomeAnd result (λ found. (found.0 ≡ limit) × (texts found.1.now ≡ map spelled images)) }
 {
     match behind("--journal", words) {
         Some(given) => split_limit(given),

@@ -2,7 +2,7 @@
 ghost use Rattle.std.specs.Prelude.{◌≡◌, ◌^◌, ◌<◌, ◌≤◌, ℕ, true, List, ◌∷◌, ◌++◌, Option, Some, map, IfSome};
 ghost use Rattle.std.specs.Fmt.{decimal};
 ghost use Rattle.std.specs.Option.{IsSomeAnd};
-ghost use Rattle.imsm_base.specs.declared.units.Level.{Level};
+ghost use Rattle.units.specs.declared.volume.Level.{Level};
 ghost use Rattle.new_container.specs.declared.container.NewContainer.{NewContainer};
 ghost use Rattle.new_container.specs.declared.volume.NewVolume.{NewVolume};
 ghost use Rattle.new_container.specs.Fits.{is_in_range};
@@ -11,8 +11,8 @@ ghost use Rattle.image_words.specs.Args.{AreInRange, Makes};
 
 use crate::numbers::{family_of, number_of};
 use crate::words::behind;
-use imsm_base::Level;
 use new_container::{NewContainer, NewVolume};
+use units::Level;
 
 /// The level that a word names.
 fn level_of(word: &str) -> Option<Level>
@@ -63,7 +63,8 @@ fn split_strip(words: &[String]) -> Option<(u16, &[String])>
 /// The volume that the first three words ask for, and the words behind them.
 fn split_volume(words: &[String]) -> Option<(NewVolume, &[String])>
     ensures some { IfSome result (λ found. texts words.now ≡ volume_words found.0 ++ texts found.1.now) }
-    ensures only { (v : NewVolume) (rest : List (List ℕ)) → is_in_range v ≡ true → texts words.now ≡ volume_words v ++ rest
+    ensures only { (v : NewVolume) (rest : List (List ℕ)) → is_in_range v ≡ true
+        → texts words.now ≡ volume_words v ++ rest
         → IsSomeAnd result (λ found. (found.0 ≡ v) × (texts found.1.now ≡ rest)) }
 {
     let (level, numbers) = split_level(words)?;
@@ -76,7 +77,8 @@ fn split_volume(words: &[String]) -> Option<(NewVolume, &[String])>
 fn split_second(words: &[String]) -> (Option<NewVolume>, &[String])
     ensures found { texts words.now ≡ second_words result.0 ++ texts result.1.now }
     ensures only { (second : Option NewVolume) (images : List ImageWord) → IfSome second (λ v. is_in_range v ≡ true)
-        → texts words.now ≡ second_words second ++ map spelled images → (result.0 ≡ second) × (texts result.1.now ≡ map spelled images) }
+        → texts words.now ≡ second_words second ++ map spelled images
+        → (result.0 ≡ second) × (texts result.1.now ≡ map spelled images) }
 {
     match split_volume(words) {
         Some((volume, named)) => (Some(volume), named),
@@ -86,8 +88,10 @@ fn split_second(words: &[String]) -> (Option<NewVolume>, &[String])
 
 /// The number of a family that the first word gives, and the words behind it.
 fn split_number_of_family(words: &[String]) -> Option<(u32, &[String])>
-    ensures some { IfSome result (λ found. (word : List ℕ) × (family_of word ≡ Some found.0) × (texts words.now ≡ word ∷ texts found.1.now)) }
-    ensures only { (family : ℕ) (word : List ℕ) (rest : List (List ℕ)) → family_of word ≡ Some family → texts words.now ≡ word ∷ rest
+    ensures some { IfSome result (λ found. (word : List ℕ) × (family_of word ≡ Some found.0)
+        × (texts words.now ≡ word ∷ texts found.1.now)) }
+    ensures only { (family : ℕ) (word : List ℕ) (rest : List (List ℕ)) → family_of word ≡ Some family
+        → texts words.now ≡ word ∷ rest
         → IsSomeAnd result (λ found. (found.0 ≡ family) × (texts found.1.now ≡ rest)) }
 {
     let (word, rest) = words.split_first()?;
@@ -97,9 +101,11 @@ fn split_number_of_family(words: &[String]) -> Option<(u32, &[String])>
 
 /// The number of a family that options give, and the words behind them.
 fn split_family(words: &[String]) -> Option<(Option<u32>, &[String])>
-    ensures some { IfSome result (λ found. (option : List (List ℕ)) × HasFamily found.0 option × (texts words.now ≡ option ++ texts found.1.now)) }
-    ensures only { (family : Option ℕ) (option : List (List ℕ)) (level : Level) (rest : List (List ℕ)) → HasFamily family option
-        → texts words.now ≡ option ++ level_word level ∷ rest → IsSomeAnd result (λ found. (found.0 ≡ family) × (texts found.1.now ≡ level_word level ∷ rest)) }
+    ensures some { IfSome result (λ found. (option : List (List ℕ)) × HasFamily found.0 option
+        × (texts words.now ≡ option ++ texts found.1.now)) }
+    ensures only { (family : Option ℕ) (option : List (List ℕ)) (level : Level) (rest : List (List ℕ))
+        → HasFamily family option → texts words.now ≡ option ++ level_word level ∷ rest
+        → IsSomeAnd result (λ found. (found.0 ≡ family) × (texts found.1.now ≡ level_word level ∷ rest)) }
 {
     match behind("--family", words) {
         Some(given) => {
@@ -113,7 +119,8 @@ fn split_family(words: &[String]) -> Option<(Option<u32>, &[String])>
 /// The container that words ask for, and the words behind theirs.
 pub fn split_container(words: &[String]) -> Option<(NewContainer, &[String])>
     ensures some { IfSome result (λ found. Makes (texts words.now) found.0 (texts found.1.now)) }
-    ensures only { (made : NewContainer) (images : List ImageWord) → AreInRange made → Makes (texts words.now) made (map spelled images)
+    ensures only { (made : NewContainer) (images : List ImageWord) → AreInRange made
+        → Makes (texts words.now) made (map spelled images)
         → IsSomeAnd result (λ found. (found.0 ≡ made) × (texts found.1.now ≡ map spelled images)) }
 {
     let (family, volumes) = split_family(words)?;

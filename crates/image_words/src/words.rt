@@ -6,9 +6,9 @@ ghost use Rattle.image_words.specs.Words.{ImageWord, IsImageWord, are_distinct, 
 ghost use Rattle.image_words.specs.Args.{word_of, words_of};
 ghost use Rattle.image_words.specs.declared.words.WordsFault.TheVariants as faults;
 
-use imsm_base::{MAX_DISKS, SERIAL_BYTES, Serial};
 use std::alloc::{AllocFailed, Global};
 use thiserror::Error;
+use units::{MAX_DISKS, SERIAL_BYTES, Serial};
 
 /// A word NAME=FILE: the name of a disk, and the file that is its image.
 #[derive(Clone, Copy, Default)]
@@ -56,7 +56,8 @@ fn names_disk(name: &str) -> bool
 /// The parts of a word around its first `=`.
 fn parts(word: &str) -> Option<ImageArg<'_>>
     ensures split { IfSome result (λ image. word.now ≡ spelled (word_of image)) }
-    ensures only { (w : ImageWord) → IsImageWord w → word.now ≡ spelled w → IsSomeAnd result (λ image. word_of image ≡ w) }
+    ensures only { (w : ImageWord) → IsImageWord w → word.now ≡ spelled w
+        → IsSomeAnd result (λ image. word_of image ≡ w) }
 {
     let (name, file) = word.split_once('=')?;
     Some(ImageArg { name, file })
@@ -104,7 +105,8 @@ impl<T: Drop> From<AllocFailed<T>> for WordsFault {
 pub fn images_of(alloc: Global, words: &[String]) -> Result<Vec<ImageArg<'_>>, WordsFault>
     ensures each { IfOk result (λ images. AllByRecursion IsImageWord (words_of images.items)) }
     ensures found { IfOk result (λ images. texts words.now ≡ map spelled (words_of images.items)) }
-    ensures refused { result ≡ Err WordsFault.Words → (ws : List ImageWord) → AllByRecursion IsImageWord ws → texts words.now ≡ map spelled ws → ⊥ }
+    ensures refused { result ≡ Err WordsFault.Words → (ws : List ImageWord) → AllByRecursion IsImageWord ws
+        → texts words.now ≡ map spelled ws → ⊥ }
     ensures many { result ≢ Err WordsFault.Images }
 {
     let mut images = Vec::new(alloc);

@@ -5,7 +5,8 @@ use Rattle.image_outside.specs.Told.{BankTold}
 
 -- what a bank of files tells: neither what they hold nor the calls on them
 abbrev pub files_told : FileState → BankTold
-files_told b = record { serials = b.serials; sizes = b.sizes; opening = None; log = None; faults = λ d. slice_index b.faults d }
+files_told b =
+    record { serials = b.serials; sizes = b.sizes; opening = None; log = None; faults = λ d. slice_index b.faults d }
 
 -- the bank, but while it is lent, the paths of its files, and how often a file couldn't be opened
 pub record FilesState : Type 0 where

@@ -1,5 +1,9 @@
-//! The program: it hands the words of its command line to the top call, over files, standard input and standard output,
-//! and ends with the status that is answered.
+//! The program: it hands the words of its command line to the top call, `image_main` of `image_run`, over files,
+//! standard input and standard output, and ends with the status that is answered.
+//!
+//! It owes that its shelf, source and sink keep what the traits of `image_outside` ask: an opened file is the next
+//! disk under its serial, a file that can't be opened changes nothing but the count of faults, and each failed call is
+//! counted. What files hold no clause says. Nothing stands on it.
 #![tactic(auto)]
 
 mod shelf;

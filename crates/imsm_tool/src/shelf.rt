@@ -6,7 +6,6 @@ ghost use Rattle.image_outside.specs.Shelves.{HasOneMore};
 ghost use Rattle.imsm_tool.specs.Adapters.{files_told};
 
 use image_run::{Shelf, ShelfFault};
-use imsm_base::{DiskNo, MAX_DISKS, Serial};
 use member_bank::{Bank, FileBank, FileBankFault};
 use std::alloc::Global;
 use std::fs::{File, OpenOptions};
@@ -14,6 +13,7 @@ use std::io;
 use std::io::ErrorKind;
 use std::marker::Model;
 use std::rt::Files;
+use units::{DiskNo, MAX_DISKS, Serial};
 
 /// Opens an image for reading and writing, or, where writing isn't allowed, for reading.
 fn open_image<R: Files<File = File>>(rt: &R, path: &str) -> io::Result<File> {
@@ -24,7 +24,8 @@ fn open_image<R: Files<File = File>>(rt: &R, path: &str) -> io::Result<File> {
 }
 
 /// Takes the numbers of standard input, output and error, as far as they are closed, by a folder, which can be neither
-/// read nor written as a file. Else the next image would have such a number, and the lines of a command would go into it.
+/// read nor written as a file. Else the next image would have such a number, and the lines of a command would go into
+/// it.
 fn hold_numbers<R: Files<File = File>>(rt: &R) -> io::Result<[File; 3]> {
     let input = File::open(rt, "/")?;
     let output = File::open(rt, "/")?;
@@ -34,7 +35,8 @@ fn hold_numbers<R: Files<File = File>>(rt: &R) -> io::Result<[File; 3]> {
 
 /// The system doesn't let this file be written.
 fn is_refusal(error: &io::Error) -> bool
-    ensures { IsTrue result ↔ (error_kind error.now ≡ ErrorKind.PermissionDenied) ⊎ (error_kind error.now ≡ ErrorKind.ReadOnlyFilesystem) }
+    ensures { IsTrue result ↔ (error_kind error.now ≡ ErrorKind.PermissionDenied)
+        ⊎ (error_kind error.now ≡ ErrorKind.ReadOnlyFilesystem) }
 {
     matches!(
         error.kind(),
@@ -104,7 +106,11 @@ impl<'a, R> Model for FileShelf<'a, R> {
 impl<'a, R: Files<File = File>> FileShelf<'a, R> {
     /// A shelf on which nothing is opened.
     pub fn new(alloc: Global, rt: &'a R) -> FileShelf<'a, R>
-        ensures { result ≡ record { bank = Some (record { serials = []; sizes = []; faults = [] }); paths = []; faults = 0 } }
+        ensures { result ≡ record {
+          bank = Some (record { serials = []; sizes = []; faults = [] });
+          paths = [];
+          faults = 0;
+        } }
     {
         FileShelf {
             rt,

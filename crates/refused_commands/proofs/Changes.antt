@@ -2,14 +2,13 @@
 use Rattle.std.proofs.Common.{◌≡◌, List, [], ◌∷◌, ◌++◌, Option, Some, None, sym, subst}
 use Rattle.std.specs.Option.{IsSomeAnd}
 use Rattle.std.specs.Prelude.{IfSome}
-use Rattle.device_log.specs.Log.{Call}
-use Rattle.image_outside.specs.Outside.{IsRead, OnlyReads}
+use Rattle.device_log.specs.Log.{Call, IsReadCall, OnlyReads}
 use Rattle.image_outside.specs.Told.{BankTold}
 use Rattle.image_outside.specs.Shelves.{HasOnlyReads, IsUnused}
 use Rattle.refused_commands.specs.Wrong.{TellsChange}
 
 -- each call of a log of reads is a read
-read_within : (front : List Call) (call : Call) (rest : List Call) → OnlyReads (front ++ call ∷ rest) → IsRead call.what
+read_within : (front : List Call) (call : Call) (rest : List Call) → OnlyReads (front ++ call ∷ rest) → IsReadCall call.what
 read_within [] call rest reads = reads.0
 read_within (first ∷ front) call rest reads = read_within front call rest reads.1
 

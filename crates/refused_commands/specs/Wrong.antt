@@ -1,12 +1,11 @@
 -- What a careless or a lazy command would leave. Source: this project's own.
 use Rattle.std.specs.Prelude.{◌≡◌, ℕ, ◌+◌, ◌-◌, ◌^◌, ◌<◌, ◌≤◌, ◌==◌, ◌&&◌, nat_le, nat_lt, Bool, true, false, List, [], ◌∷◌, ◌++◌, length, Some, None}
 use Rattle.std.specs.List.{list_any}
-use Rattle.imsm_base.specs.declared.bounds.TheConstants.{METADATA_SECTORS}
-use Rattle.imsm_base.specs.declared.units.Serial.{Serial}
+use Rattle.units.specs.declared.bounds.TheConstants.{METADATA_SECTORS}
+use Rattle.units.specs.declared.disk.Serial.{Serial}
 use Rattle.member_bank.specs.Faults.{Rose}
-use Rattle.imsm_base.specs.Whole.{anchor_place}
-use Rattle.device_log.specs.Log.{Call, What, Read, Write, Sync}
-use Rattle.image_outside.specs.Outside.{IsRead}
+use Rattle.units.specs.Places.{anchor_place}
+use Rattle.device_log.specs.Log.{Call, What, Read, Write, Sync, IsReadCall}
 use Rattle.image_outside.specs.Told.{BankTold, ShelfTold}
 use Rattle.image_words.specs.Words.{ImageWord, serials_named}
 use Rattle.image_run.specs.Requests.{Request, NotWords, TooManyImages, Assemble, Examine, Create, Replay}
@@ -22,7 +21,7 @@ pub record TellsChange (bank : BankTold) : Type 0 where
   pub change : Call
   pub rest : List Call
   pub told : bank.log ≡ Some (front ++ change ∷ rest)
-  pub changes : IsRead change.what → ⊥
+  pub changes : IsReadCall change.what → ⊥
 
 -- the images that a request names
 abbrev pub images_of : Request → List ImageWord

@@ -1,11 +1,15 @@
-//! What the promise of a command refuses: runs that a careless or a lazy command would leave. They are proved, not run.
+//! What the promise of a command refuses: runs that a careless or a lazy command would leave, each with the proof that
+//! the promise doesn't admit it, and right ones beside them that it admits. They are proved, not run.
+//!
+//! Nothing stands on it: it shows of the definitions that `image_run` promises by that they are not too weak. A wrong
+//! run that is found to be admitted belongs here, once the definitions refuse it.
 #![tactic(auto)]
 
 ghost use Rattle.std.specs.Prelude.{ℕ, ◌≡◌, ◌≢◌, List, [], ◌∷◌, ◌++◌};
 ghost use Rattle.std.specs.Option.{IsSomeAnd};
 ghost use Rattle.device_log.specs.Log.{Call};
-ghost use Rattle.imsm_base.specs.declared.units.Serial.{Serial};
-ghost use Rattle.imsm_base.specs.Whole.{anchor_place};
+ghost use Rattle.units.specs.declared.disk.Serial.{Serial};
+ghost use Rattle.units.specs.Places.{anchor_place};
 ghost use Rattle.array_model.specs.Kept.{ScriptState};
 ghost use Rattle.new_container.specs.declared.container.NewContainer.{NewContainer};
 ghost use Rattle.image_outside.specs.Shelves.{IsUnused};

@@ -1,9 +1,10 @@
-use Rattle.std.proofs.Common.{◌≡◌, ◌+◌, ◌&&◌, ◌||◌, ℕ, Bool, true, false, List, [], ◌∷◌, ◌++◌, length, refl, sym, subst, ◌∙◌, ap, arith, inl, inr}
+use Rattle.std.proofs.Common.{◌≡◌, ◌+◌, ◌&&◌, ℕ, Bool, true, false, List, [], ◌∷◌, ◌++◌, length, refl, sym, subst, ◌∙◌, ap, arith, inl, inr}
 use Rattle.std.specs.Prelude.{nat_le, nat_lt, IfSome, slice_index}
 use Rattle.std.specs.List.{flat_map, list_any, range_with_len}
 use Rattle.std.proofs.lemmas.Bool.Decides.{nat_tests}
 use Rattle.std.proofs.lemmas.List.{append_cancel_left}
-use Rattle.imsm_base.specs.Whole.{anchor_place}
+use Rattle.std.proofs.lemmas.Bool.{or_left, or_right}
+use Rattle.units.specs.Places.{anchor_place}
 use Rattle.device_log.specs.Log.{Call}
 use Rattle.mpb_store.specs.Sectors.{block_sectors}
 use Rattle.new_container.specs.declared.container.NewContainer.{NewContainer}
@@ -44,17 +45,9 @@ made_log made n log bank lines tells (inl (is, creates)) =
 made_log made n log bank lines tells (inr (inl (is, refuses))) = absurd (cc is)
 made_log made n log bank lines tells (inr (inr (is, stops))) = absurd (cc is)
 
-either : (a b : Bool) → b ≡ true → (a || b) ≡ true
-either true b h = refl
-either false b h = h
-
-left : (a b : Bool) → a ≡ true → (a || b) ≡ true
-left true b h = refl
-left false b h = absurd (cc h)
-
 any_within : (test : Call → Bool) (front : List Call) (call : Call) (rest : List Call) → test call ≡ true → list_any test (front ++ call ∷ rest) ≡ true
-any_within test [] call rest h = left (test call) (list_any test rest) h
-any_within test (first ∷ front) call rest h = either (test first) (list_any test (front ++ call ∷ rest)) (any_within test front call rest h)
+any_within test [] call rest h = or_left (test call) (list_any test rest) h
+any_within test (first ∷ front) call rest h = or_right (test first) (list_any test (front ++ call ∷ rest)) (any_within test front call rest h)
 
 covers_own : (p : ℕ) → (nat_le p p && nat_lt p (p + 1)) ≡ true
 covers_own p = grind (arith, nat_tests)

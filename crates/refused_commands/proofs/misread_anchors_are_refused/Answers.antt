@@ -1,16 +1,16 @@
 use Rattle.std.proofs.Common.{◌≡◌, ◌≤◌, ℕ, Bool, false, List, [], ◌∷◌, ◌++◌, Option, Some, refl, sym, subst, ◌∙◌, ap, arith, zero, suc, None, inr}
 use Rattle.std.specs.Prelude.{if◌then◌else◌, nat_lt, is_some, IfSome, slice_get}
 use Rattle.std.proofs.lemmas.Bool.Decides.{nat_tests}
-use Rattle.imsm_base.specs.declared.bounds.TheConstants.{METADATA_SECTORS}
-use Rattle.imsm_base.specs.declared.units.Sector.{Sector}
-use Rattle.imsm_base.specs.Whole.{anchor_place}
+use Rattle.units.specs.declared.bounds.TheConstants.{METADATA_SECTORS}
+use Rattle.units.specs.declared.disk.Sector.{Sector}
+use Rattle.units.specs.Places.{anchor_place}
 use Rattle.device_log.specs.Log.{Call, Read}
 use Rattle.image_outside.specs.Told.{BankTold}
 use Rattle.image_verdict.specs.declared.images.ImageRead.{ImageRead}
 use Rattle.image_verdict.specs.declared.report.Report.TheVariants.{Unbuilt}
 use Rattle.image_verdict.specs.Endings.{Reports}
 use Rattle.image_verdict.specs.Reports.{Holds}
-use Rattle.imsm_base.specs.declared.units.Serial.{Serial}
+use Rattle.units.specs.declared.disk.Serial.{Serial}
 use Rattle.image_verdict.specs.Images.{IsAnchorOn, IsFoundOn, StandIn, anchor_calls, anchor_reads, sizes_of_all}
 use Rattle.refused_commands.specs.Wrong.{FailsAnchor, TellsOfOne, read_of}
 use Rattle.refused_commands.proofs.First.{first_place}

@@ -13,9 +13,7 @@ use Rattle.image_run.specs.Openings.{OpensAll, OpensNot, paths_named}
 use Rattle.image_run.specs.Requests.{NotWords, TooManyImages, Assemble, Examine, Create, Replay}
 use Rattle.refused_commands.specs.Wrong.{HoldsPair}
 use Rattle.refused_commands.proofs.swapped_files_are_refused.Goals as goal
-
-first_is : (a b : List ℕ) (more rest : List (List ℕ)) → a ∷ more ≡ b ∷ rest → a ≡ b
-first_is a b more rest same = cc same
+use Rattle.image_words.proofs.Asked.{first_same}
 
 -- images of which two paths were opened are two at least
 cannot_stop : (front : List ImageWord) (image : ImageWord) (rest : List ImageWord) (a b : ImageWord) (x y : List ℕ)
@@ -32,7 +30,7 @@ module _ (a b : ImageWord) (apart : a.file ≢ b.file) (before after : ShelfTold
   not_all : (images : List ImageWord) → images ≡ a ∷ b ∷ [] → (P : BankTold → Type 0) → OpensAll images before after P → ⊥
   not_all images is P opens =
       let same : b.file ∷ a.file ∷ [] ≡ a.file ∷ b.file ∷ [] = subst (λ l. b.file ∷ a.file ∷ [] ≡ paths_named l) is (opened_paths images P opens) in
-      apart (sym (first_is b.file a.file (a.file ∷ []) (b.file ∷ []) same))
+      apart (sym (first_same b.file a.file (a.file ∷ []) (b.file ∷ []) same))
 
   not_stopped : (images : List ImageWord) → images ≡ a ∷ b ∷ [] → (lines : List ℕ) (status : ℕ) → OpensNot images before after lines status → ⊥
   not_stopped images is lines status fails =

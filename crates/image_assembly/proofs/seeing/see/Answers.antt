@@ -1,7 +1,7 @@
 use Rattle.std.proofs.Common.{◌≡◌, ℕ, List, [], Some, refl, sym, ◌∙◌, ap, subst}
 use Rattle.std.specs.Prelude.{slice_get, slice_index}
 use Rattle.std.proofs.lemmas.List.{append-nil}
-use Rattle.imsm_base.specs.declared.units.Serial.{Serial}
+use Rattle.units.specs.declared.disk.Serial.{Serial}
 use Rattle.mpb_store.specs.Banks.{IsAnswerOn, sector_after}
 use Rattle.image_assembly.specs.Seen.{bytes_of, found_of}
 use Rattle.image_assembly.proofs.Seen.{answer_by, sound_by, told_at}

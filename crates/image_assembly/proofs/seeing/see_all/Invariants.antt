@@ -1,11 +1,11 @@
 use Rattle.std.proofs.Common.{◌≡◌, ℕ, ◌≤◌, length, Some}
 use Rattle.std.specs.Prelude.{IfSome, slice_get}
-use Rattle.imsm_base.specs.declared.bounds.TheConstants.{MAX_BLOCK_BYTES}
+use Rattle.units.specs.declared.bounds.TheConstants.{MAX_BLOCK_BYTES}
 use Rattle.member_bank.specs.Told.{Keeps}
-use Rattle.image_outside.specs.Outside.{OnlyReads}
 use Rattle.assembly.specs.declared.seen.Seen.{Seen}
 use Rattle.image_assembly.specs.Seen.{IsSeen}
 use Rattle.image_assembly.proofs.seeing.see_all.Given as goal
+use Rattle.device_log.specs.Log.{OnlyReads}
 
 abbrev pub invariant-loop-d : goal.invariant-loop-d
 invariant-loop-d g l = record {

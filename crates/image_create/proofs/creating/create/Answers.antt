@@ -1,6 +1,6 @@
 use Rattle.std.proofs.Common.{◌≡◌, ◌∙◌, ◌+◌, ◌≤◌, ℕ, All, length, ap, inl, inr, subst, sym, refl}
 use Rattle.std.specs.Prelude.{slice_index}
-use Rattle.imsm_base.specs.declared.bounds.TheConstants.{METADATA_SECTORS}
+use Rattle.units.specs.declared.bounds.TheConstants.{METADATA_SECTORS}
 use Rattle.imsm_base.specs.Layout.{Block, family_of}
 use Rattle.imsm_base.proofs.Joined.{block_in-spelled}
 use Rattle.imsm_buffer.specs.Buffer.{parts_of}
@@ -10,9 +10,9 @@ use Rattle.new_container.specs.Fits.{container_fits, total_rows}
 use Rattle.image_outside.specs.Told.{bank_told}
 use Rattle.image_outside.specs.Views.{sink_told}
 use Rattle.image_outside.proofs.Ended.{ends_as}
-use Rattle.image_lines.specs.Lines.{failed_member_line}
+use Rattle.image_outside.specs.Lines.{failed_member_line}
 use Rattle.image_create.specs.Calls.{create_calls}
-use Rattle.image_create.specs.Creates.{CreatesBy, created_line, disks_of, small_line}
+use Rattle.image_create.specs.Creates.{CreatesBy, created_line, new_disks_of, small_line}
 use Rattle.image_create.specs.Laid.{LaysDown}
 use Rattle.image_create.specs.Room.{IsFirstBelow}
 use Rattle.image_create.specs.Stops.{StopsAt}
@@ -74,7 +74,7 @@ returns-in-Ok-new_block-clause-ends g c =
     let made = c.args.made.now in
     let before = bank_told g.B.Bank c.args.bank.now in
     let after = bank_told g.B.Bank c.lay_down-laid.new.bank in
-    let disks = disks_of before.serials before.sizes in
+    let disks = new_disks_of before.serials before.sizes in
     let many : c.from.result ≡ length before.serials = c.from.ensures ∙ c.disks.ensures.count ∙ sym c.disks.ensures.named in
     let rows : c.total_rows-rows.result ≡ total_rows made (length before.serials) = c.total_rows-rows.ensures.rows ∙ ap (total_rows made) many in
     let given : c.as_slice.result.now ≡ disks = c.as_slice.ensures.value ∙ c.in-Ok.ensures in

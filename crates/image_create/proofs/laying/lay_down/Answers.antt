@@ -1,14 +1,15 @@
 use Rattle.std.proofs.Common.{◌≡◌, ℕ, List, length, Option, Result, Ok, Err, ◌∙◌, ap, subst, arith}
 use Rattle.std.specs.Prelude.{IfErr}
-use Rattle.imsm_base.specs.declared.units.DiskNo.{DiskNo}
-use Rattle.imsm_base.specs.declared.units.Sector.{Sector}
+use Rattle.std.proofs.lemmas.Result.{on_ok_weaker}
+use Rattle.units.specs.declared.disk.DiskNo.{DiskNo}
+use Rattle.units.specs.declared.disk.Sector.{Sector}
 use Rattle.device_log.specs.Log.{Call}
 use Rattle.member_bank.specs.Told.{LogsAll}
 use Rattle.mpb_store.specs.Sectors.{block_sectors}
 use Rattle.image_create.specs.Calls.{block_calls, calls_on, create_calls, zero_calls}
 use Rattle.image_create.specs.Stops.{StopsAt}
 use Rattle.image_create.proofs.Law.{lays_down}
-use Rattle.image_create.proofs.Making.{handed_on, logs_both, on_ok_map, stops_before, stops_behind}
+use Rattle.image_create.proofs.Making.{handed_on, logs_both, stops_before, stops_behind}
 use Rattle.image_create.proofs.laying.lay_down.Goals as goal
 
 -- the calls of the block by what the code holds
@@ -35,9 +36,10 @@ stopped a b c sizes now rows bytes sectors size (Err d) same is long zeros block
 
 pub returns-clause-ok : goal.returns-clause-ok
 returns-clause-ok g c =
-    on_ok_map c.write_blocks.result c.write_blocks.ensures.ok
+    on_ok_weaker c.write_blocks.result
     (created (g.B.Bank.sizes c.args.bank.now) (g.B.Bank.sizes c.zero_disks.new.bank) c.args.rows c.args.block.now.bytes c.block_sectors_of.result c.size_of.result
     c.zero_disks.ensures.kept.sized c.block_sectors_of.ensures.sectors c.size_of.ensures.size c.in_ok-zero_disks.ensures.ok)
+    c.write_blocks.ensures.ok
 
 pub returns-clause-err : goal.returns-clause-err
 returns-clause-err g c =
@@ -47,11 +49,12 @@ returns-clause-err g c =
 pub returns-clause-laid : goal.returns-clause-laid
 returns-clause-laid g c =
     let sizes : List ℕ = g.B.Bank.sizes c.args.bank.now in
-    on_ok_map c.write_blocks.result c.write_blocks.ensures.ok
+    on_ok_weaker c.write_blocks.result
     (λ block. lays_down sizes c.args.rows c.args.block.now.bytes (g.B.Bank.opening c.write_blocks.new.bank) (g.B.Bank.log c.args.bank.now) (g.B.Bank.log c.write_blocks.new.bank) c.requires
     (let most = c.size_of.ensures.most in let size = c.size_of.ensures.size in omega arith)
     (created sizes (g.B.Bank.sizes c.zero_disks.new.bank) c.args.rows c.args.block.now.bytes c.block_sectors_of.result c.size_of.result
     c.zero_disks.ensures.kept.sized c.block_sectors_of.ensures.sectors c.size_of.ensures.size c.in_ok-zero_disks.ensures.ok block))
+    c.write_blocks.ensures.ok
 
 pub returns-in_err-zero_disks-clause-err : goal.returns-in_err-zero_disks-clause-err
 returns-in_err-zero_disks-clause-err g c =

@@ -1,8 +1,9 @@
 use Rattle.std.specs.Prelude.{slice_index}
 use Rattle.mpb_store.specs.Writing.{steps_of}
-use Rattle.image_create.proofs.Making.{kept_both, on_err}
+use Rattle.image_create.proofs.Making.{kept_both}
 use Rattle.image_create.proofs.Stepping.{next_is, placed_rest, step_made, step_stopped}
 use Rattle.image_create.proofs.laying.write_block.Goals as goal
+use Rattle.image_outside.proofs.Written.{on_err}
 
 pub loop-step-preserved : goal.loop-step-preserved
 loop-step-preserved g c =

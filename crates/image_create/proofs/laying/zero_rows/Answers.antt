@@ -1,7 +1,8 @@
 use Rattle.std.proofs.Common.{arith}
-use Rattle.image_create.proofs.Making.{kept_both, on_err}
+use Rattle.image_create.proofs.Making.{kept_both}
 use Rattle.image_create.proofs.Zeroed.{piece_made, piece_stopped}
 use Rattle.image_create.proofs.laying.zero_rows.Goals as goal
+use Rattle.image_outside.proofs.Written.{on_err}
 
 pub loop-piece-preserved : goal.loop-piece-preserved
 loop-piece-preserved g c = record {

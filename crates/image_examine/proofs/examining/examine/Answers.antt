@@ -1,19 +1,20 @@
 use Rattle.std.proofs.Common.{◌≡◌, ℕ, List, Some, sym, ◌∙◌, ap, subst, arith}
 use Rattle.std.specs.Prelude.{IfSome, slice_get, slice_index}
-use Rattle.imsm_base.specs.declared.units.Serial.{Serial}
+use Rattle.units.specs.declared.disk.Serial.{Serial}
 use Rattle.imsm_base.specs.Parts.{block_in}
 use Rattle.imsm_base.specs.Whole.{IsWholeDisk}
 use Rattle.member_bank.specs.Faults.{Rose}
 use Rattle.mpb_store.specs.Banks.{IsAnswerOn, LogsLook, has_failed, is_unread, sector_after}
-use Rattle.image_outside.specs.Outside.{OnlyReads}
 use Rattle.image_outside.specs.Endings.{Prints}
 use Rattle.image_outside.specs.Told.{bank_told}
 use Rattle.image_outside.specs.Views.{sink_told}
 use Rattle.image_outside.proofs.Ended.{ends_map}
 use Rattle.image_examine.specs.Text.{found_status, found_text}
 use Rattle.image_examine.specs.Endings.{Examines, IsLook}
-use Rattle.image_examine.proofs.Examined.{if_told, look_alone, one_of, only_reads, reads_alone}
+use Rattle.image_examine.proofs.Examined.{look_alone, one_of, only_reads, reads_alone}
 use Rattle.image_examine.proofs.examining.examine.Goals as goal
+use Rattle.mpb_store.proofs.Told.{if_told}
+use Rattle.device_log.specs.Log.{OnlyReads}
 
 pub returns-clause-reads : goal.returns-clause-reads
 returns-clause-reads g c =

@@ -1,5 +1,5 @@
 use Rattle.std.proofs.Common.{List, inl, subst, sym}
-use Rattle.imsm_base.specs.declared.units.Sector.{Sector}
+use Rattle.units.specs.declared.disk.Sector.{Sector}
 use Rattle.array_model.specs.declared.journal.Entry.{Entry}
 use Rattle.array_model.specs.Kept.{asked_by}
 use Rattle.image_outside.specs.Told.{bank_told}

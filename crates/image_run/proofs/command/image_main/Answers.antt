@@ -7,7 +7,7 @@ use Rattle.image_run.specs.Outside.{outside_told}
 use Rattle.image_run.specs.Requests.{Request, NotWords, TooManyImages}
 use Rattle.image_run.specs.Runs.{Carries}
 use Rattle.image_run.proofs.Carried.{asks_nothing, asks_too_many, carries_line, one_request}
-use Rattle.image_run.proofs.Opened.{words_length}
+use Rattle.image_words.proofs.Grammar.{length-words}
 use Rattle.image_run.proofs.command.image_main.Goals as goal
 
 pub returns-in-Ok : goal.returns-in-Ok
@@ -18,7 +18,7 @@ returns-in-Ok g c request asked =
     let after = outside done.new.shelf done.new.source done.new.sink in
     let command = c.in-Ok.command in
     subst (λ (r : Request). Carries r before after done.result.0)
-    (one_request (texts c.args.words.now) command.verb (words_of command.images.items) c.in-Ok.ensures.found (omega (arith, words_length command.images.items, c.in-Ok.ensures.few)) c.in-Ok.ensures.only c.in-Ok.ensures.within request asked)
+    (one_request (texts c.args.words.now) command.verb (words_of command.images.items) c.in-Ok.ensures.found (omega (arith, length-words command.images.items, c.in-Ok.ensures.few)) c.in-Ok.ensures.only c.in-Ok.ensures.within request asked)
     done.ensures
 
 pub returns-in-Err-Words : goal.returns-in-Err-Words

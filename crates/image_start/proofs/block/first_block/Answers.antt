@@ -1,7 +1,7 @@
 use Rattle.std.proofs.Common.{sym, ◌∙◌, ◌≡◌, ap, subst}
 use Rattle.imsm_base.specs.Whole.{IsWhole}
 use Rattle.imsm_base.specs.Parts.{block_in}
-use Rattle.imsm_base.specs.declared.units.Sector.{Sector}
+use Rattle.units.specs.declared.disk.Sector.{Sector}
 use Rattle.imsm_codec.specs.Given.{given_block}
 use Rattle.image_verdict.specs.Reports.{first_block}
 use Rattle.image_start.proofs.Found.{whole-first}

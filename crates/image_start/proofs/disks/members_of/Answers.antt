@@ -1,5 +1,5 @@
 use Rattle.std.proofs.Common.{List, [], ◌∷◌, ◌++◌, sym, ◌∙◌, ap}
-use Rattle.imsm_base.specs.declared.units.DiskNo.{DiskNo}
+use Rattle.units.specs.declared.disk.DiskNo.{DiskNo}
 use Rattle.imsm_codec.specs.Mpb.{block_bytes}
 use Rattle.control_state.specs.Seen.{numbers}
 use Rattle.image_start.proofs.Found.{both-members}

@@ -1,8 +1,8 @@
 use Rattle.std.proofs.Common.{◌<◌, ℕ, List, sym, ◌∙◌, ap, subst}
-use Rattle.imsm_base.specs.declared.units.Sector.{Sector}
+use Rattle.units.specs.declared.disk.Sector.{Sector}
 use Rattle.imsm_codec.specs.Mpb.{block_bytes}
-use Rattle.array_model.specs.Meaning.{bytes_of_laid}
-use Rattle.block_words.specs.Reading.{block_words}
+use Rattle.block_meaning.specs.Meaning.{bytes_of_laid}
+use Rattle.block_meaning.specs.Reading.{block_words}
 use Rattle.control_state.specs.Book.{laid_at}
 use Rattle.image_verdict.specs.declared.images.ImageRead.{ImageRead}
 use Rattle.image_start.specs.Starts.{Starts}

@@ -1,7 +1,7 @@
 use Rattle.std.proofs.Common.{◌≡◌, ◌<◌, ◌+◌, ℕ, List, length, map, ◌∙◌, ◌∷◌, ◌++◌, [], ap, subst, sym, arith}
 use Rattle.std.specs.Prelude.{IfSome}
-use Rattle.imsm_base.specs.declared.units.Sector.{Sector}
-use Rattle.imsm_base.specs.declared.units.Serial.{Serial}
+use Rattle.units.specs.declared.disk.Sector.{Sector}
+use Rattle.units.specs.declared.disk.Serial.{Serial}
 use Rattle.image_outside.specs.Told.{bank_told}
 use Rattle.image_verdict.specs.declared.images.ImageRead.{ImageRead}
 use Rattle.image_verdict.proofs.Reading.{AreFound, found_all, found_more, reads_of, still}

@@ -1,7 +1,7 @@
 use Rattle.std.proofs.Common.{arith}
 use Rattle.imsm_text.specs.Text.{escaped}
 use Rattle.image_outside.proofs.Written.{breaks_within, on_err}
-use Rattle.image_lines.proofs.name.write_all_escaped.Goals as goal
+use Rattle.image_outside.proofs.name.write_all_escaped.Goals as goal
 
 pub returns-in_err-write_escaped-clause-err : goal.returns-in_err-write_escaped-clause-err
 returns-in_err-write_escaped-clause-err g c =

@@ -2,7 +2,7 @@ use Rattle.std.proofs.Common.{◌≤◌, take}
 use Rattle.std.specs.List.{flat_map}
 use Rattle.image_outside.specs.Outside.{Adds}
 use Rattle.imsm_text.specs.Text.{escaped}
-use Rattle.image_lines.proofs.name.write_all_escaped.Given as goal
+use Rattle.image_outside.proofs.name.write_all_escaped.Given as goal
 
 abbrev pub invariant-loop-byte : goal.invariant-loop-byte
 invariant-loop-byte g l = record {

@@ -1,8 +1,8 @@
 use Rattle.std.proofs.Common.{◌≤◌, take}
 use Rattle.std.specs.List.{flat_map}
 use Rattle.image_outside.specs.Outside.{Adds}
-use Rattle.image_lines.specs.Lines.{spaced_text}
-use Rattle.image_lines.proofs.line.write_words.Given as goal
+use Rattle.image_outside.specs.Lines.{spaced_text}
+use Rattle.image_outside.proofs.line.write_words.Given as goal
 
 abbrev pub invariant-loop-word : goal.invariant-loop-word
 invariant-loop-word g l = record {

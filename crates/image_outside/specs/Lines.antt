@@ -1,6 +1,6 @@
 -- A word of a line with a space before it, and the line that names a disk. Source: this project's own.
 use Rattle.std.specs.Prelude.{ℕ, List, [], ◌∷◌, codes}
-use Rattle.imsm_base.specs.declared.units.Serial.{Serial}
+use Rattle.units.specs.declared.disk.Serial.{Serial}
 use Rattle.imsm_text.specs.declared.word.Word.{Word}
 use Rattle.imsm_text.specs.Text.{line, serial_text, spaced, word_text}
 

@@ -1,7 +1,7 @@
 use Rattle.std.proofs.Common.{arith}
-use Rattle.image_lines.specs.Lines.{spaced_text}
+use Rattle.image_outside.specs.Lines.{spaced_text}
 use Rattle.image_outside.proofs.Written.{breaks_within, on_err}
-use Rattle.image_lines.proofs.line.write_words.Goals as goal
+use Rattle.image_outside.proofs.line.write_words.Goals as goal
 
 pub returns-in_err-write_spaced-clause-err : goal.returns-in_err-write_spaced-clause-err
 returns-in_err-write_spaced-clause-err g c =
