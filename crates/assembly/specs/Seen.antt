@@ -31,7 +31,8 @@ pub record Container : Type 0 where
   pub bytes : List ℕ
 
 abbrev pub container_by : ℕ → SeenAs → List Container
-container_by d (Whole block) = if volume_count_of (parts_of block) == 0 then [] else record { disk = d; bytes = block.bytes } ∷ []
+container_by d (Whole block) =
+    if volume_count_of (parts_of block) == 0 then [] else record { disk = d; bytes = block.bytes } ∷ []
 container_by d Blank = []
 container_by d (Torn fault) = []
 container_by d Unread = []

@@ -1,8 +1,8 @@
--- The verdict on a container whose disks are there as they were seen. Source: mdadm --incremental (Incremental.c) starts an
--- array when the disks that its newest metadata names are there; the words are this project's own.
+-- The verdict on a container whose disks are there as they were seen. Source: mdadm --incremental (Incremental.c)
+-- starts an array when the disks that its newest metadata names are there; the words are this project's own.
 use Rattle.std.specs.Prelude.{◌≡◌, ◌≢◌, ℕ, ◌+◌, ◌*◌, ◌<◌, ◌≤◌, ◌==◌, ◌⊎◌, if◌then◌else◌, List, [], map, length, Contains, slice_get, Some, ⊤}
 use Rattle.std.specs.List.{AllByRecursion, sum_by}
-use Rattle.imsm_base.specs.declared.bounds.TheConstants.{FIRST_GENERATION_REFUSED, MAX_BLOCK_BYTES}
+use Rattle.units.specs.declared.bounds.TheConstants.{FIRST_GENERATION_REFUSED, MAX_BLOCK_BYTES}
 use Rattle.imsm_base.specs.Layout.{Block, Volume, generation_of, map_count_of, member_count_of, size_of, volume_count_of}
 use Rattle.imsm_base.specs.Parts.{block_in}
 use Rattle.imsm_base.specs.Volumes.{first_map}
@@ -16,7 +16,7 @@ use Rattle.generation_pick.specs.Picks.{HasPickFault, IsPicked}
 use Rattle.disk_roles.specs.declared.arrived.Arrived.{Arrived}
 use Rattle.disk_roles.specs.Roles.{missing_of, role_of}
 use Rattle.volume_verdict.specs.declared.verdict.VolumeVerdict.{VolumeVerdict}
-use Rattle.volume_verdict.specs.Verdicts.{IsVerdict as IsVolumeVerdict}
+use Rattle.volume_verdict.specs.Verdicts.{IsVolumeVerdict}
 use Rattle.assembly.specs.Seen.{AreOf, arrived_of, containers_of}
 use Rattle.assembly.specs.declared.seen.Seen.{Seen}
 use Rattle.assembly.specs.declared.seen.SeenAs.{SeenAs}
@@ -62,22 +62,26 @@ pub record IsOpening (bytes : List ℕ) (p : Pick) (arrived : List Arrived) (o :
   pub family : o.family ≡ p.family
   pub generation : o.generation ≡ p.generation
   pub count : length o.volumes.items ≡ volume_count_of (block_in bytes)
-  pub volumes : (k : ℕ) (v : VolumeVerdict) → slice_get o.volumes.items k ≡ Some v → IsVolumeVerdict (block_in bytes) k (volume_at k (block_in bytes)) v
+  pub volumes : (k : ℕ) (v : VolumeVerdict) → slice_get o.volumes.items k ≡ Some v
+      → IsVolumeVerdict (block_in bytes) k (volume_at k (block_in bytes)) v
   pub disks : o.disks.items ≡ map (role_of (block_in bytes)) arrived
 
--- the verdict by the newest block, the first of these that holds: the block would be too large, its generation is one of the
--- last, expected disks lack, or it is opened
+-- the verdict by the newest block, the first of these that holds: the block would be too large, its generation is one
+-- of the last, expected disks lack, or it is opened
 abbrev pub IsVerdictBy : List ℕ → Pick → List Arrived → Verdict → Type 0
 IsVerdictBy bytes p arrived (Refused fault) = ⊥
 IsVerdictBy bytes p arrived (Large family generation size) =
     (family ≡ p.family) × (generation ≡ p.generation) × (size ≡ full_size (block_in bytes)) × (MAX_BLOCK_BYTES < size)
 IsVerdictBy bytes p arrived (GenerationEnd family generation) =
-    (family ≡ p.family) × (generation ≡ p.generation) × (full_size (block_in bytes) ≤ MAX_BLOCK_BYTES) × (FIRST_GENERATION_REFUSED ≤ generation)
+    (family ≡ p.family) × (generation ≡ p.generation) × (full_size (block_in bytes) ≤ MAX_BLOCK_BYTES)
+    × (FIRST_GENERATION_REFUSED ≤ generation)
 IsVerdictBy bytes p arrived (Waiting family generation list) =
-    (family ≡ p.family) × (generation ≡ p.generation) × (full_size (block_in bytes) ≤ MAX_BLOCK_BYTES) × (generation < FIRST_GENERATION_REFUSED)
+    (family ≡ p.family) × (generation ≡ p.generation) × (full_size (block_in bytes) ≤ MAX_BLOCK_BYTES)
+    × (generation < FIRST_GENERATION_REFUSED)
     × (list.items ≡ missing_of (block_in bytes) arrived) × (list.items ≢ [])
 IsVerdictBy bytes p arrived (Ready opening) =
-    (full_size (block_in bytes) ≤ MAX_BLOCK_BYTES) × (p.generation < FIRST_GENERATION_REFUSED) × (missing_of (block_in bytes) arrived ≡ [])
+    (full_size (block_in bytes) ≤ MAX_BLOCK_BYTES) × (p.generation < FIRST_GENERATION_REFUSED)
+    × (missing_of (block_in bytes) arrived ≡ [])
     × IsOpening bytes p arrived opening
 
 -- the verdict on the disks: no block is picked, or it is the one by the newest

@@ -4,8 +4,8 @@ ghost use Rattle.assembly.specs.Seen.{AreOf, container_by, containers_of, found_
 
 use crate::seen::{Seen, SeenAs};
 use generation_pick::FoundAt;
-use imsm_base::DiskNo;
 use std::alloc::{AllocError, Global};
+use units::DiskNo;
 
 /// Appends a disk's block, if it is a container's.
 fn push_container<'a>(

@@ -12,9 +12,9 @@ use crate::seen::{Seen, arrived};
 use crate::verdict::{AssemblyFault, Verdict};
 use disk_roles::{Arrived, missing_of};
 use generation_pick::{FoundAt, Pick, pick};
-use imsm_base::{FIRST_GENERATION_REFUSED, MAX_BLOCK_BYTES};
 use imsm_codec::MpbRef;
 use std::alloc::{AllocError, Global};
+use units::{FIRST_GENERATION_REFUSED, MAX_BLOCK_BYTES};
 
 /// The entry that was picked.
 fn picked<'a, 'b>(list: &'b [FoundAt<'a>], pick: &Pick) -> &'b FoundAt<'a>

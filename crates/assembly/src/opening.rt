@@ -1,22 +1,22 @@
 //! A container is opened by its newest block.
 ghost use Rattle.std.specs.Prelude.{◌≡◌, ◌≤◌, ◌<◌, ℕ, map, length, slice_get, Some, IfOk};
 ghost use Rattle.std.specs.List.{sum_by};
-ghost use Rattle.imsm_base.specs.declared.bounds.TheConstants.{MAX_BLOCK_BYTES as MAX_BYTES};
+ghost use Rattle.units.specs.declared.bounds.TheConstants.{MAX_BLOCK_BYTES as MAX_BYTES};
 ghost use Rattle.imsm_base.specs.Layout.{volume_count_of};
 ghost use Rattle.imsm_base.specs.Whole.{IsWholeBlock};
 ghost use Rattle.imsm_codec.specs.Mpb.{block_bytes, block_of, volume_at};
 ghost use Rattle.disk_roles.specs.Roles.{role_of as role_by};
 ghost use Rattle.volume_verdict.specs.declared.verdict.VolumeVerdict.{VolumeVerdict as OnVolume};
-ghost use Rattle.volume_verdict.specs.Verdicts.{IsVerdict as IsVolumeVerdict};
+ghost use Rattle.volume_verdict.specs.Verdicts.{IsVolumeVerdict};
 ghost use Rattle.assembly.specs.Verdicts.{IsOpening, full_size, map_room};
 
 use crate::verdict::Opening;
 use disk_roles::{Arrived, DiskRole, role_of};
 use generation_pick::Pick;
-use imsm_base::VolNo;
 use imsm_buffer::MpbBuf;
 use imsm_codec::MpbRef;
 use std::alloc::{AllocError, Global};
+use units::VolNo;
 use volume_verdict::{VolumeVerdict, verdict_of};
 
 /// How many bytes a second map of a volume would take more.

@@ -4,10 +4,10 @@ ghost use Rattle.imsm_buffer.specs.Buffer.{parts_of};
 ghost use Rattle.assembly.specs.Seen.{arrived_of, block_holds, holds_of};
 
 use disk_roles::{Arrived, Holds};
-use imsm_base::{DiskNo, Serial};
 use imsm_buffer::MpbBuf;
 use mpb_store::StoreFault;
 use std::alloc::{AllocError, Global};
+use units::{DiskNo, Serial};
 
 /// What was seen on a disk, with the block where it is whole.
 #[derive(Drop)]

@@ -2,9 +2,9 @@
 use arrayvec::ArrayVec;
 use disk_roles::{DiskRole, Missing};
 use generation_pick::PickFault;
-use imsm_base::MAX_DISKS;
 use imsm_buffer::MpbBuf;
 use thiserror::Error;
+use units::MAX_DISKS;
 use volume_verdict::VolumeVerdict;
 
 /// What is said of a container by the disks that are there: the first of these that holds.
@@ -12,8 +12,8 @@ use volume_verdict::VolumeVerdict;
 pub enum Verdict {
     /// No block is the newest.
     Refused(PickFault),
-    /// The newest block, of this family and generation, would take so many bytes with a second map for each volume, which
-    /// is more than 8,192.
+    /// The newest block, of this family and generation, would take so many bytes with a second map for each volume,
+    /// which is more than 8,192.
     Large {
         family: u32,
         generation: u32,
@@ -34,8 +34,8 @@ pub enum Verdict {
     Ready(Opening),
 }
 
-/// A container that is opened: its newest block, in room for a second map of each volume; its family and generation; what is
-/// said of each volume; and the role of each disk, in the order of the disks.
+/// A container that is opened: its newest block, in room for a second map of each volume; its family and generation;
+/// what is said of each volume; and the role of each disk, in the order of the disks.
 #[derive(Drop)]
 pub struct Opening {
     pub book: MpbBuf,

@@ -1,5 +1,5 @@
--- What a container's newest block, and what was found, say of each disk. Source: mdadm --incremental starts a container where
--- the disks are there that its metadata names (super-intel.c, load_super_imsm); the words are this project's own.
+-- What a container's newest block, and what was found, say of each disk. Source: mdadm --incremental starts a container
+-- where the disks are there that its metadata names (super-intel.c, load_super_imsm); the words are this project's own.
 use Rattle.std.specs.Prelude.{ℕ, nat_le, ◌&&◌, Bool, true, false, if◌then◌else◌, List, [], ◌∷◌, find, length, slice_index_or, Option, Some, None}
 use Rattle.std.specs.List.{flat_map, range_with_len}
 use Rattle.std.specs.Str.{bytes_eq}
@@ -55,7 +55,8 @@ is_named false serial disk = bytes_eq (serial_of disk) serial
 
 -- the index of the first record that has a serial, of those that are expected or of all
 abbrev pub index_of : Bool → List ℕ → Block → Option ℕ
-index_of only_expected serial b = find (λ i. is_named only_expected serial (slice_index_or b.disks i [])) (range_with_len 0 (length b.disks))
+index_of only_expected serial b =
+    find (λ i. is_named only_expected serial (slice_index_or b.disks i [])) (range_with_len 0 (length b.disks))
 
 -- of a disk that the table doesn't name
 abbrev pub role_by : Holds → DiskRole

@@ -1,6 +1,6 @@
 //! Disks that are there.
-use imsm_base::Serial;
 use mpb_store::StoreFault;
+use units::Serial;
 
 /// What was found on a disk.
 #[derive(Clone, Copy, Debug, PartialEq, Eq)]

@@ -9,9 +9,9 @@ ghost use Rattle.disk_roles.specs.Roles.{disk_of, lack_by, lack_of, missing_as, 
 use crate::arrived::{Arrived, Holds};
 use crate::record::is_expected;
 use arrayvec::ArrayVec;
-use imsm_base::{MAX_DISKS, Serial};
 use imsm_codec::MpbRef;
 use mpb_store::StoreFault;
+use units::{MAX_DISKS, Serial};
 
 /// What is wrong with an expected disk.
 #[derive(Clone, Copy, Debug, Default, PartialEq, Eq)]
@@ -60,7 +60,8 @@ fn lack_by(holds: Holds, named: u64, has: u64) -> Option<Lack>
 /// What is wrong with the disk of a record.
 fn lack_of(mpb: &MpbRef<'_>, i: u8, list: &[Arrived]) -> Option<Lack>
     requires { i < disk_count_of (block_of mpb.now) }
-    ensures { result ≡ lack_of (disk_at i (block_of mpb.now)) (disk_of (serial_of (disk_at i (block_of mpb.now))) list.now) }
+    ensures { result ≡ lack_of (disk_at i (block_of mpb.now))
+        (disk_of (serial_of (disk_at i (block_of mpb.now))) list.now) }
 {
     match disk_of(list, &mpb.disk_serial(i)) {
         Some(disk) => lack_by(disk.holds, mpb.disk_blocks(i), disk.sectors),

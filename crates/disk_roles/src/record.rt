@@ -6,8 +6,8 @@ ghost use Rattle.imsm_base.specs.Whole.{is_expected};
 ghost use Rattle.imsm_codec.specs.Mpb.{block_of, disk_at};
 ghost use Rattle.disk_roles.specs.Roles.{index_of, is_named};
 
-use imsm_base::Serial;
 use imsm_codec::MpbRef;
+use units::Serial;
 
 /// Whether a status says that a disk is configured and hasn't failed.
 fn is_expected_status(status: u32) -> bool

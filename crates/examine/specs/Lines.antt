@@ -1,4 +1,5 @@
--- What a metadata block says, as lines. Source: the fields are those of super-intel.c; the lines are this project's own.
+-- What a metadata block says, as lines. Source: the fields are those of super-intel.c; the lines are this project's
+-- own.
 use Rattle.std.specs.Prelude.{ℕ, ◌%◌, ◌^◌, ◌==◌, if◌then◌else◌, List, [], ◌∷◌, ◌++◌, codes}
 use Rattle.std.specs.Int.{bit_at}
 use Rattle.std.specs.List.{flat_map, enumerate_from}
@@ -27,12 +28,14 @@ header_lines b = flat_map field_line
 
 abbrev pub disk_line : ℕ → Part → List ℕ
 disk_line i d =
-    line (codes "disk") (decimal i ∷ name_text (serial_of d) ∷ decimal (total_blocks_of d) ∷ hex_number (status_of d) ∷ [])
+    line (codes "disk") (decimal i ∷ name_text (serial_of d) ∷ decimal (total_blocks_of d)
+    ∷ hex_number (status_of d) ∷ [])
 
 -- an entry of a map: the low 24 bits are the index of a disk's record, and bit 24 says that the slot is out of sync
 abbrev pub slot_line : ℕ → ℕ → List ℕ
 slot_line slot order =
-    line (codes "slot") (decimal slot ∷ decimal (order % 2 ^ 24) ∷ (if bit_at order 24 == 1 then codes "out" else codes "in") ∷ [])
+    line (codes "slot") (decimal slot ∷ decimal (order % 2 ^ 24)
+    ∷ (if bit_at order 24 == 1 then codes "out" else codes "in") ∷ [])
 
 abbrev pub map_line : ℕ → Map → List ℕ
 map_line i m =

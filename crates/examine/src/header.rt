@@ -14,7 +14,8 @@ type Field<'a> = (&'a [u8], Word<'a>);
 
 /// Appends a line for each field.
 fn push_fields(out: &mut Vec<u8>, fields: &[Field<'_>]) -> Result<(), AllocError>
-    ensures { OnOk result (out.new.items ≡ out.old.items ++ flat_map field_line (map (λ f. (f.0.now, word_text f.1)) fields.now)) }
+    ensures { OnOk result (out.new.items ≡ out.old.items
+        ++ flat_map field_line (map (λ f. (f.0.now, word_text f.1)) fields.now)) }
 {
     for (name, word) in fields {
         push_line(out, name, &[*word])?;

@@ -6,10 +6,10 @@ ghost use Rattle.imsm_base.specs.Volumes.{order_at};
 ghost use Rattle.imsm_codec.specs.Mpb.{block_of, volume_at, map_at};
 ghost use Rattle.examine.specs.Lines.{numbered, slot_line, map_line, map_lines};
 
-use imsm_base::{Slot, VolNo};
 use imsm_codec::MpbRef;
 use imsm_text::{Word, push_line};
 use std::alloc::AllocError;
+use units::{Slot, VolNo};
 
 /// The low bits of a slot's entry, the index of its disk's record.
 const INDEX_RANGE: u32 = 1 << 24;
@@ -41,7 +41,8 @@ fn push_slot(out: &mut Vec<u8>, slot: Slot, order: u32) -> Result<(), AllocError
 fn push_slots(out: &mut Vec<u8>, mpb: &MpbRef<'_>, v: VolNo, m: u8) -> Result<(), AllocError>
     requires volume { v.0 < volume_count_of (block_of mpb.now) }
     requires map { m < map_count_of (volume_at v.0 (block_of mpb.now)) }
-    ensures { OnOk result (out.new.items ≡ out.old.items ++ numbered slot_line (orders_of (map_at m (volume_at v.0 (block_of mpb.now))))) }
+    ensures { OnOk result (out.new.items ≡ out.old.items
+        ++ numbered slot_line (orders_of (map_at m (volume_at v.0 (block_of mpb.now))))) }
 {
     for slot in 0..mpb.map_members(v, m) {
         push_slot(out, Slot(slot), mpb.map_ord(v, m, Slot(slot)))?;
@@ -86,7 +87,8 @@ fn push_map_lines(out: &mut Vec<u8>, mpb: &MpbRef<'_>, v: VolNo, m: u8) -> Resul
 /// Appends the lines of a volume's maps.
 pub(crate) fn push_maps(out: &mut Vec<u8>, mpb: &MpbRef<'_>, v: VolNo) -> Result<(), AllocError>
     requires { v.0 < volume_count_of (block_of mpb.now) }
-    ensures { OnOk result (out.new.items ≡ out.old.items ++ numbered map_lines (volume_at v.0 (block_of mpb.now)).maps) }
+    ensures { OnOk result (out.new.items ≡ out.old.items
+        ++ numbered map_lines (volume_at v.0 (block_of mpb.now)).maps) }
 {
     for m in 0..mpb.maps(v) {
         push_map_lines(out, mpb, v, m)?;

@@ -5,10 +5,10 @@ ghost use Rattle.imsm_codec.specs.Mpb.{block_of, volume_at};
 ghost use Rattle.examine.specs.Lines.{numbered, pass_lines, volume_head, volume_lines};
 
 use crate::maps::push_maps;
-use imsm_base::VolNo;
 use imsm_codec::MpbRef;
 use imsm_text::{Word, push_line};
 use std::alloc::AllocError;
+use units::VolNo;
 
 /// Appends the line of a volume's pass, where one is open.
 fn push_pass(out: &mut Vec<u8>, mpb: &MpbRef<'_>, v: VolNo) -> Result<(), AllocError>

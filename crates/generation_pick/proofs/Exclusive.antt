@@ -2,7 +2,7 @@
 use Rattle.std.proofs.Common.{◌≡◌, ◌≢◌, ℕ, ◌≤◌, Some, List, [], ◌∷◌, ◌++◌, sym, ◌∙◌, ap, refl, subst, arith}
 use Rattle.std.specs.Prelude.{All, Contains, slice_get}
 use Rattle.std.proofs.lemmas.List.Elements.{All-contains, All-head, All-tail, Contains-append_right}
-use Rattle.imsm_base.specs.declared.units.DiskNo.{DiskNo}
+use Rattle.units.specs.declared.disk.DiskNo.{DiskNo}
 use Rattle.generation_pick.specs.declared.fault.PickFault.{PickFault}
 use Rattle.generation_pick.specs.declared.fault.PickFault.TheVariants.{None as Empty, Families, Twins}
 use Rattle.generation_pick.specs.declared.found.FoundAt.{FoundAt}

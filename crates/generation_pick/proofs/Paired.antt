@@ -2,7 +2,7 @@
 use Rattle.std.proofs.Common.{◌≡◌, ℕ, ◌≤◌, ◌⊎◌, inl, inr, Option, Some, None, List, [], ◌∷◌, ◌++◌, sym, ◌∙◌, ap, subst, arith}
 use Rattle.std.specs.Prelude.{All, Contains, MatchOption}
 use Rattle.std.proofs.lemmas.List.Elements.{All-push, Contains-push, Contains-append_left}
-use Rattle.imsm_base.specs.declared.units.DiskNo.{DiskNo}
+use Rattle.units.specs.declared.disk.DiskNo.{DiskNo}
 use Rattle.generation_pick.specs.declared.found.FoundAt.{FoundAt}
 use Rattle.generation_pick.specs.declared.twins.Pair.{Pair}
 use Rattle.generation_pick.specs.Found.{AreTwins, HasNoTwins, HasTwins}

@@ -6,7 +6,8 @@ use crate::found::FoundAt;
 
 /// The first family that isn't this one.
 pub(crate) fn other_family(list: &[FoundAt<'_>], family: u32) -> Option<u32>
-    ensures { MatchOption result (All (λ f. family_at f ≡ family) list.now) (λ other. IsFirstOther family list.now other) }
+    ensures { MatchOption result (All (λ f. family_at f ≡ family) list.now)
+        (λ other. IsFirstOther family list.now other) }
 {
     for entry in list {
         let other = entry.mpb.family();

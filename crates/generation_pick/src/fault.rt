@@ -1,6 +1,6 @@
 //! Why no block of a list is picked.
-use imsm_base::DiskNo;
 use thiserror::Error;
+use units::DiskNo;
 
 /// Why no block of a list is picked: the first of these conditions that holds.
 #[derive(Clone, Copy, Debug, PartialEq, Eq, Error)]

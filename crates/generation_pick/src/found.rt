@@ -1,6 +1,6 @@
 //! Blocks that were found on disks.
-use imsm_base::DiskNo;
 use imsm_codec::MpbRef;
+use units::DiskNo;
 
 /// A whole block, and the disk that it was found on.
 #[derive(Clone, Copy)]

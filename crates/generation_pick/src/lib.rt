@@ -1,4 +1,8 @@
 //! The newest of the metadata blocks that were found on the disks of a container.
+//!
+//! It owes that one of the highest generation is picked, on the least disk that has one, exactly where all blocks are
+//! of one family and no two of one generation differ; and that an error is the first fault, with its families or
+//! disks, both ways. It takes no memory. `assembly` stands on it.
 #![tactic(auto)]
 
 mod families;

@@ -4,7 +4,7 @@ ghost use Rattle.generation_pick.specs.Found.{AreTwins, HasNoTwins, HasTwins};
 ghost use Rattle.generation_pick.specs.Steps.{IsLeastTwin, IsUpTo};
 
 use crate::found::FoundAt;
-use imsm_base::DiskNo;
+use units::DiskNo;
 
 /// A disk, and one that has a twin of its block.
 #[derive(Clone, Copy)]
@@ -33,7 +33,8 @@ fn lower(least: Option<DiskNo>, disk: DiskNo) -> DiskNo
 
 /// The lowest disk that has a twin of an entry's block.
 fn twin_of(list: &[FoundAt<'_>], entry: &FoundAt<'_>) -> Option<DiskNo>
-    ensures { MatchOption result (All (λ g. AreTwins entry.now g → ⊥) list.now) (λ e. IsLeastTwin entry.now list.now e.0) }
+    ensures { MatchOption result (All (λ g. AreTwins entry.now g → ⊥) list.now)
+        (λ e. IsLeastTwin entry.now list.now e.0) }
 {
     let mut least = None;
     for other in list {

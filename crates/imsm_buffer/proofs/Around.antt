@@ -19,7 +19,7 @@ before_disk i b = concat b.header ++ flat_map concat (take i b.disks)
 abbrev pub behind_disk : ℕ → Block → List ℕ
 behind_disk i b = flat_map concat (drop (suc i) b.disks) ++ (flat_map volume_bytes b.volumes ++ (b.gap ++ b.tail))
 
-regrouped : (h a e r s : List ℕ) → h ++ ((a ++ (e ++ r)) ++ s) ≡ (h ++ a) ++ (e ++ (r ++ s))
+pub regrouped : (h a e r s : List ℕ) → h ++ ((a ++ (e ++ r)) ++ s) ≡ (h ++ a) ++ (e ++ (r ++ s))
 regrouped h a e r s = simp append_assoc
 
 pub disk_laid : (i : ℕ) (f : Part → Part) (b : Block) → i < length b.disks → bytes_of (with_disk i f b) ≡ before_disk i b ++ (concat (f (get_or b.disks i [])) ++ behind_disk i b)

@@ -5,7 +5,7 @@ use Rattle.std.specs.Global.{Vec}
 use Rattle.std.specs.Vec.{with_items}
 use Rattle.std.proofs.lemmas.List.{with_items_is, length-append}
 use Rattle.byteorder.specs.Endian.{little_bytes}
-use Rattle.imsm_base.specs.declared.bounds.TheConstants.{MAX_BLOCK_BYTES, MAX_DISKS}
+use Rattle.units.specs.declared.bounds.TheConstants.{MAX_BLOCK_BYTES, MAX_DISKS}
 use Rattle.imsm_base.specs.Fields.{Part, number_at, with_number_at}
 use Rattle.imsm_base.specs.Layout.{Block, Volume, Map, Spells, HasLengths, IsMap, IsVolume, IsBlock, disk_lengths, size_of, disk_count_of, volume_count_of, map_count_of, member_count_of, map_bytes, volume_bytes, bytes_of, migration_state_of}
 use Rattle.imsm_base.specs.Volumes.{blank_map, first_map}

@@ -6,7 +6,7 @@ use Rattle.std.specs.Vec.{with_items}
 use Rattle.std.proofs.Math.Seq.{take-append-add}
 use Rattle.std.proofs.lemmas.List.{with_items_is, append-nil, take_all, drop_all, drop-replicate, take-replicate, take-append-le, length-replicate}
 use Rattle.byteorder.specs.Endian.{little_bytes}
-use Rattle.imsm_base.specs.declared.bounds.TheConstants.{MAX_BLOCK_BYTES}
+use Rattle.units.specs.declared.bounds.TheConstants.{MAX_BLOCK_BYTES}
 use Rattle.imsm_base.specs.Fields.{number_at, with_number_at}
 use Rattle.imsm_base.specs.Layout.{Block, Spells, size_of, volume_count_of}
 use Rattle.imsm_base.specs.Parts.{block_in}
@@ -35,7 +35,7 @@ laid_as bytes b s most words =
 parts_in : (bytes : List ℕ) → IsLaid bytes → Spells bytes (block_in bytes)
 parts_in bytes laid = spells_apart bytes laid.room
 
-long : (bytes : List ℕ) → IsLaid bytes → 216 ≤ length bytes
+pub long : (bytes : List ℕ) → IsLaid bytes → 216 ≤ length bytes
 long bytes laid = let room = laid.room in omega arith
 
 kept_as : (bytes new : List ℕ) (b : Block) (room capacity : ℕ) → IsKept bytes room capacity → Spells new b → size_of b ≤ MAX_BLOCK_BYTES → length new ≡ length bytes → IsKept new room capacity

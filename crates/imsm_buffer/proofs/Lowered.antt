@@ -8,11 +8,12 @@ use Rattle.imsm_base.proofs.Apart.{laid_apart}
 use Rattle.imsm_base.proofs.Edited.{fields_of}
 use Rattle.imsm_codec.specs.Laid.{IsLaid}
 use Rattle.imsm_buffer.proofs.Replaced.{all-at}
-use Rattle.imsm_buffer.proofs.Placed.{block_is, volume_is, two_at_most, one_at_least}
+use Rattle.imsm_buffer.proofs.Placed.{block_is, volume_is, two_at_most}
 use Rattle.imsm_base.specs.Volumes.{blank_map, order_at}
 use Rattle.imsm_base.specs.EditsOfTables.{changed_at, with_volume, with_map, lowered, map_without_disk, volume_without_disk, block_with_order, map_with_order}
 use Rattle.imsm_codec.specs.Mpb.{volume_at, map_at, blank_volume}
 use Rattle.imsm_buffer.specs.Buffer.{Buffer, parts_of}
+use Rattle.imsm_codec.proofs.Places.{some_map}
 
 -- the first k elements are changed
 abbrev pub changed_to : {A : Type 0} → ℕ → (A → A) → List A → List A
@@ -250,7 +251,7 @@ pub one_done : (v i n : ℕ) (old new : Buffer) (read : List ℕ) (first : Block
     parts_of new ≡ with_volume v (with_map 0 (map_without_disk i)) (parts_of old) → parts_of new ≡ with_volume v (volume_without_disk i) (parts_of old)
 one_done v i n old new read first laid same volume start count other block =
     let few : n ≤ 2 = omega (arith, two_at_most (volume_at v first)) in
-    let some : 0 < n = omega (arith, one_at_least (volume_at v first)) in
+    let some : 0 < n = omega (arith, some_map (volume_at v first)) in
     let one : n ≡ 1 = not_two n few some other in
     block ∙ one_lowered v i (parts_of old) (maps_there v n old read first laid same volume start count ∙ one)
   where

@@ -1,6 +1,6 @@
 -- The bytes of a new block are laid out as one.
 use Rattle.std.proofs.Common.{◌≡◌, ℕ, ◌%◌, ◌≤◌, List, length, refl, ap, arith, lit≤}
-use Rattle.imsm_base.specs.declared.bounds.TheConstants.{MAX_BLOCK_BYTES}
+use Rattle.units.specs.declared.bounds.TheConstants.{MAX_BLOCK_BYTES}
 use Rattle.imsm_base.specs.Layout.{IsBlock, bytes_of}
 use Rattle.imsm_base.specs.Parts.{block_in}
 use Rattle.imsm_base.specs.EditsOfTables.{new_block}

@@ -1,6 +1,6 @@
 -- The code's places are those of the block's tables.
 use Rattle.std.proofs.Common.{◌≡◌, ℕ, zero, suc, ◌+◌, ◌-◌, ◌*◌, ◌≤◌, ◌<◌, ◌==◌, if◌then◌else◌, Bool, true, false, List, [], ◌∷◌, ◌++◌, length, take, drop, get_or, ◌∙◌, ap, arith}
-use Rattle.std.proofs.lemmas.List.{append_assoc, drop_at, length-append, length-drop}
+use Rattle.std.proofs.lemmas.List.{drop_at, length-append, length-drop}
 use Rattle.imsm_base.specs.Fields.{number_at}
 use Rattle.imsm_base.specs.Layout.{Block, Volume, Map, IsMap, IsVolume, IsBlock, volume_count_of, map_count_of, migration_state_of, map_bytes}
 use Rattle.imsm_base.specs.Volumes.{blank_map}
@@ -13,7 +13,7 @@ use Rattle.imsm_codec.specs.Laid.{IsLaid}
 use Rattle.imsm_codec.specs.Mpb.{volume_at, map_at, blank_volume}
 use Rattle.imsm_buffer.specs.Places.{volume_place, map_place}
 use Rattle.imsm_buffer.proofs.Replaced.{all-at}
-use Rattle.imsm_buffer.proofs.Around.{before_volume, behind_volume, volume_around, volume_placed, before_map, behind_map, map_around, map_placed, fields_in}
+use Rattle.imsm_buffer.proofs.Around.{before_volume, behind_volume, volume_around, volume_placed, before_map, behind_map, map_around, map_placed, fields_in, regrouped}
 
 -- what is laid is a block
 pub block_is : (bytes : List ℕ) → IsLaid bytes → IsBlock (block_in bytes)
@@ -68,9 +68,6 @@ map_found bytes v m laid volume map =
     ap (λ (y : List ℕ). map_in (drop (map_place v m b) y)) whole
     ∙ ap map_in (drop_at front (map_bytes (map_at m x) ++ rest) (map_place v m b) place)
     ∙ map_in-joined (map_at m x) rest (all-at IsMap m x.maps blank_map isv.maps there)
-  where
-    regrouped : (h a e r s : List ℕ) → h ++ ((a ++ (e ++ r)) ++ s) ≡ (h ++ a) ++ (e ++ (r ++ s))
-    regrouped h a e r s = simp append_assoc
 
 pub two_at_most : (v : Volume) → map_count_of v ≤ 2
 two_at_most v = one_or_two (migration_state_of v == 0)
@@ -95,10 +92,3 @@ second_place bytes v m first len laid volume map later at is =
     first_room : (ms : List Map) → 0 < length ms → maps_room (take 1 ms) ≡ map_room (get_or ms 0 blank_map)
     first_room [] some = absurd (omega arith)
     first_room (y ∷ ms) some = omega arith
-
-pub one_at_least : (v : Volume) → 0 < map_count_of v
-one_at_least v = one_or_two (migration_state_of v == 0)
-  where
-    one_or_two : (none : Bool) → 0 < (if none then 1 else 2)
-    one_or_two true = omega arith
-    one_or_two false = omega arith

@@ -21,6 +21,7 @@ use Rattle.imsm_buffer.specs.Places.{disk_place, with_pass_at}
 use Rattle.imsm_buffer.proofs.Replaced.{replaced, replaced-front, replaced-field, all-at}
 use Rattle.imsm_buffer.proofs.Around.{HasFields, fields_in, before_disk, behind_disk, disk_around, disk_placed}
 use Rattle.imsm_buffer.proofs.FieldEdits.{state_step, pass_put, pass-is, state_kept, volume_long}
+use Rattle.imsm_codec.proofs.Mirror.{list_of_one, list_of_two}
 
 -- A RUN OF BYTES
 
@@ -56,7 +57,7 @@ all-append : {A : Type 0} (P : A → Type 0) (xs : List A) (x : A) → AllByRecu
 all-append P [] x all last = (last, tt)
 all-append P (y ∷ xs) x all last = (all.0, all-append P xs x all.1 last)
 
-number-one : (n : ℕ) → n < 256 → number (little_bytes 1 n) ≡ n
+pub number-one : (n : ℕ) → n < 256 → number (little_bytes 1 n) ≡ n
 number-one n below = little_number-reads_back 1 n [] below
 
 pub counted : (b : Block) (n : ℕ) → IsBlock b → n < 256 → number (get_or (counting_disks n b.header) 8 []) ≡ n
@@ -162,19 +163,8 @@ length-disk_less b i is below new =
 
 -- A MIGRATION
 
-one_map : (ms : List Map) → length ms ≡ 1 → ms ≡ get_or ms 0 blank_map ∷ []
-one_map [] len = absurd (omega arith)
-one_map (m ∷ []) len = refl
-one_map (m ∷ (n ∷ ms)) len = absurd (omega arith)
-
-two_maps : (ms : List Map) → length ms ≡ 2 → ms ≡ get_or ms 0 blank_map ∷ get_or ms 1 blank_map ∷ []
-two_maps [] len = absurd (omega arith)
-two_maps (m ∷ []) len = absurd (omega arith)
-two_maps (m ∷ (n ∷ [])) len = refl
-two_maps (m ∷ (n ∷ (o ∷ ms))) len = absurd (omega arith)
-
 pub closed_maps : (v : Volume) → IsVolume v → migration_state_of v ≡ 0 → v.maps ≡ first_map v ∷ []
-closed_maps v is closed = one_map v.maps (is.count ∙ ap (λ (n : ℕ). if n == 0 then 1 else 2) closed)
+closed_maps v is closed = list_of_one v.maps (is.count ∙ ap (λ (n : ℕ). if n == 0 then 1 else 2) closed)
 
 abbrev maps_for : Bool → ℕ
 maps_for idle = if idle then 1 else 2
@@ -184,7 +174,7 @@ count_open zero busy = absurd (busy refl)
 count_open (suc n) busy = ap maps_for (eqb-suc-zero n)
 
 pub opened_maps : (v : Volume) → IsVolume v → migration_state_of v ≢ 0 → v.maps ≡ first_map v ∷ get_or v.maps 1 blank_map ∷ []
-opened_maps v is opened = two_maps v.maps (is.count ∙ count_open (migration_state_of v) opened)
+opened_maps v is opened = list_of_two v.maps (is.count ∙ count_open (migration_state_of v) opened)
 
 -- a volume with these maps
 abbrev with_maps : List Map → Volume → Volume

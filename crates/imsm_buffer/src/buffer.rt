@@ -1,6 +1,6 @@
 //! A metadata block that is owned, and edited in place.
 ghost use Rattle.std.specs.Prelude.{◌≡◌, ◌*◌, ◌≤◌, ◌↔◌, length, vec_capacity, IfOk, IfErr, IsOk, OnOk, OnErr};
-ghost use Rattle.imsm_base.specs.declared.bounds.TheConstants.{MAX_BLOCK_BYTES};
+ghost use Rattle.units.specs.declared.bounds.TheConstants.{MAX_BLOCK_BYTES};
 ghost use Rattle.imsm_base.specs.Layout.{size_of, checksum_of, bytes_of};
 ghost use Rattle.imsm_base.specs.Whole.{IsSize, block_sum};
 ghost use Rattle.imsm_base.specs.Edits.{sized, sealed, first_sector, block_sealed};
@@ -9,10 +9,11 @@ ghost use Rattle.imsm_codec.specs.Mpb.{block_bytes, block_of};
 ghost use Rattle.imsm_buffer.specs.Buffer.{parts_of};
 
 use crate::fault::{CodecFault, NoRoom};
-use imsm_base::{SECTOR_BYTES, Sector, put_u32};
+use imsm_base::put_u32;
 use imsm_codec::{MpbRef, sum_of};
 use std::alloc::Global;
 use std::marker::Model;
+use units::{SECTOR_BYTES, Sector};
 
 /// A metadata block of its own memory. Each edit changes its field and leaves every other byte; the checksum is right
 /// after `seal` and until the next edit.
@@ -131,7 +132,8 @@ impl MpbBuf {
     /// Makes the size and the checksum right.
     pub fn seal(&mut self)
         ensures bytes { self.new ≡ record self.old { bytes = sealed self.old.bytes } }
-        ensures block { parts_of self.new ≡ block_sealed (parts_of self.old) (length self.old.bytes) (block_sum (sized self.old.bytes)) }
+        ensures block { parts_of self.new
+            ≡ block_sealed (parts_of self.old) (length self.old.bytes) (block_sum (sized self.old.bytes)) }
         // So the conditions of a whole block on its size and its checksum hold.
         ensures sized { IsSize (size_of (parts_of self.new)) }
         ensures given { size_of (parts_of self.new) ≡ length self.new.bytes }

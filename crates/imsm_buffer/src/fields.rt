@@ -1,16 +1,17 @@
 //! Edits of one field of a block that is owned. Each leaves every other byte.
 ghost use Rattle.std.specs.Prelude.{◌≡◌, ◌<◌};
-ghost use Rattle.imsm_base.specs.Layout.{disk_count_of, volume_count_of, map_count_of, member_count_of, bytes_of};
+ghost use Rattle.imsm_base.specs.Layout.{disk_count_of, volume_count_of, map_count_of, member_count_of};
 ghost use Rattle.imsm_base.specs.Edits.{with_generation, with_dirty, block_with_generation, block_with_dirty};
 ghost use Rattle.imsm_base.specs.EditsOfTables.{block_with_status, block_with_order, block_with_state, block_with_name, block_with_pass};
 ghost use Rattle.imsm_codec.specs.Mpb.{volume_at, map_at};
-ghost use Rattle.imsm_buffer.specs.Buffer.{parts_of};
+ghost use Rattle.imsm_buffer.specs.Buffer.{parts_of, with_block};
 
 use crate::buffer::MpbBuf;
 use crate::bytes::{put_name, put_pass, put_u8};
 use crate::places::{disk_place, map_place, volume_place};
-use imsm_base::{Slot, VolNo, put_u32};
+use imsm_base::put_u32;
 use imsm_codec::{MAP_BYTES, get_u8};
+use units::{Slot, VolNo};
 
 /// The mark of a checkpoint that this project writes (`checkpoint_id`).
 const CHECKPOINT: u32 = 0x494D_0001;
@@ -38,7 +39,7 @@ impl MpbBuf {
     /// Sets the status of a disk's record.
     pub fn set_status(&mut self, i: u8, status: u32)
         requires { i < disk_count_of (parts_of self.old) }
-        ensures bytes { self.new ≡ record self.old { bytes = bytes_of (block_with_status (parts_of self.old) i status) } }
+        ensures bytes { self.new ≡ with_block self.old (block_with_status (parts_of self.old) i status) }
         ensures block { parts_of self.new ≡ block_with_status (parts_of self.old) i status }
     {
         put_u32(&mut self.bytes, disk_place(i) + 24, status);
@@ -49,7 +50,7 @@ impl MpbBuf {
         requires volume { v.0 < volume_count_of (parts_of self.old) }
         requires map { m < map_count_of (volume_at v.0 (parts_of self.old)) }
         requires slot { slot.0 < member_count_of (map_at m (volume_at v.0 (parts_of self.old))) }
-        ensures bytes { self.new ≡ record self.old { bytes = bytes_of (block_with_order (parts_of self.old) v.0 m slot.0 ord) } }
+        ensures bytes { self.new ≡ with_block self.old (block_with_order (parts_of self.old) v.0 m slot.0 ord) }
         ensures block { parts_of self.new ≡ block_with_order (parts_of self.old) v.0 m slot.0 ord }
     {
         let at = map_place(&self.bytes, v.0, m) + MAP_BYTES + 4 * usize::from(slot.0);
@@ -60,7 +61,7 @@ impl MpbBuf {
     pub fn set_state(&mut self, v: VolNo, m: u8, state: u8)
         requires volume { v.0 < volume_count_of (parts_of self.old) }
         requires map { m < map_count_of (volume_at v.0 (parts_of self.old)) }
-        ensures bytes { self.new ≡ record self.old { bytes = bytes_of (block_with_state (parts_of self.old) v.0 m state) } }
+        ensures bytes { self.new ≡ with_block self.old (block_with_state (parts_of self.old) v.0 m state) }
         ensures block { parts_of self.new ≡ block_with_state (parts_of self.old) v.0 m state }
     {
         let at = map_place(&self.bytes, v.0, m) + 14;
@@ -70,7 +71,7 @@ impl MpbBuf {
     /// Sets the type of a volume's pass and how far it has come, in units of 128 rows, with this project's mark.
     pub fn set_pass(&mut self, v: VolNo, kind: u8, unit: u64)
         requires { v.0 < volume_count_of (parts_of self.old) }
-        ensures bytes { self.new ≡ record self.old { bytes = bytes_of (block_with_pass (parts_of self.old) v.0 kind unit) } }
+        ensures bytes { self.new ≡ with_block self.old (block_with_pass (parts_of self.old) v.0 kind unit) }
         ensures block { parts_of self.new ≡ block_with_pass (parts_of self.old) v.0 kind unit }
     {
         let at = volume_place(&self.bytes, v.0);
@@ -80,7 +81,7 @@ impl MpbBuf {
     /// Sets a volume's name.
     pub fn set_name(&mut self, v: VolNo, name: &[u8; 16])
         requires { v.0 < volume_count_of (parts_of self.old) }
-        ensures bytes { self.new ≡ record self.old { bytes = bytes_of (block_with_name (parts_of self.old) v.0 name.now) } }
+        ensures bytes { self.new ≡ with_block self.old (block_with_name (parts_of self.old) v.0 name.now) }
         ensures block { parts_of self.new ≡ block_with_name (parts_of self.old) v.0 name.now }
     {
         let at = volume_place(&self.bytes, v.0);

@@ -6,8 +6,8 @@ ghost use Rattle.imsm_codec.specs.Laid.{IsLaid};
 ghost use Rattle.imsm_codec.specs.Mpb.{volume_at, map_at};
 ghost use Rattle.imsm_buffer.specs.Places.{disk_place, volume_place, map_place};
 
-use imsm_base::HEADER_BYTES;
 use imsm_codec::{DISK_BYTES, VOLUME_BYTES, behind, map_len, volume_from};
+use units::HEADER_BYTES;
 
 /// The place of a disk's record.
 pub(crate) fn disk_place(i: u8) -> usize

@@ -1,5 +1,5 @@
 //! A disk's record that is added to a block (`struct imsm_disk` of super-intel.c).
-use imsm_base::Serial;
+use units::Serial;
 
 /// A disk's serial, how many sectors it has, and the words of its record: `scsi_id`, `status`, `owner_cfg_num`.
 #[derive(Clone, Copy, Debug, PartialEq, Eq)]

@@ -1,13 +1,13 @@
 //! Edits of the tables of a block that is owned, in the room that it has.
 ghost use Rattle.std.specs.Prelude.{◌≡◌, ◌≢◌, ◌+◌, ◌<◌, ◌≤◌, ◌↔◌, ◌++◌, length, take, drop, vec_len, vec_capacity, IfOk, IfErr, IsOk, OnOk, OnErr};
 ghost use Rattle.std.specs.List.{concat};
-ghost use Rattle.imsm_base.specs.declared.bounds.TheConstants.{MAX_DISKS};
+ghost use Rattle.units.specs.declared.bounds.TheConstants.{MAX_DISKS};
 ghost use Rattle.imsm_base.specs.Fields.{with_number_at};
-ghost use Rattle.imsm_base.specs.Layout.{HasLengths, disk_lengths, disk_count_of, volume_count_of, migration_state_of, bytes_of};
+ghost use Rattle.imsm_base.specs.Layout.{HasLengths, disk_lengths, disk_count_of, volume_count_of, migration_state_of};
 ghost use Rattle.imsm_base.specs.Parts.{map_room};
 ghost use Rattle.imsm_base.specs.EditsOfTables.{block_with_disk, block_with_migration, block_without_migration};
 ghost use Rattle.imsm_codec.specs.Mpb.{volume_at, map_at};
-ghost use Rattle.imsm_buffer.specs.Buffer.{parts_of};
+ghost use Rattle.imsm_buffer.specs.Buffer.{parts_of, with_block};
 ghost use Rattle.imsm_buffer.specs.Places.{disk_place, with_pass_at};
 ghost use Rattle.imsm_buffer.specs.Record.{part_of};
 
@@ -17,8 +17,9 @@ use crate::fault::NoRoom;
 use crate::moves::{put_in, put_twice, take_out};
 use crate::places::{disk_place, map_place, map_size, volume_place};
 use crate::record::DiskRecord;
-use imsm_base::{VolNo, put_u32};
+use imsm_base::put_u32;
 use imsm_codec::{DISK_BYTES, VOLUME_BYTES, get_u8};
+use units::VolNo;
 
 /// The bytes of a record.
 fn record_bytes(added: &DiskRecord) -> [u8; 48]
@@ -41,7 +42,8 @@ fn add_record(bytes: &mut Vec<u8>, count: u8, added: &[u8; 48])
     requires inside { disk_place count ≤ vec_len bytes.old }
     requires room { vec_len bytes.old + 48 ≤ vec_capacity bytes.old }
     requires few { count < MAX_DISKS }
-    ensures items { bytes.new.items ≡ with_number_at 1 0x38 (count + 1) (take (disk_place count) bytes.old.items ++ (added.now ++ drop (disk_place count) bytes.old.items)) }
+    ensures items { bytes.new.items ≡ with_number_at 1 0x38 (count + 1)
+        (take (disk_place count) bytes.old.items ++ (added.now ++ drop (disk_place count) bytes.old.items)) }
     ensures capacity { vec_capacity bytes.old ≤ vec_capacity bytes.new }
 {
     put_in(bytes, disk_place(count), added);
@@ -52,7 +54,8 @@ fn add_record(bytes: &mut Vec<u8>, count: u8, added: &[u8; 48])
 fn open_at(bytes: &mut Vec<u8>, volume: usize, len: usize)
     requires inside { volume + 112 + len ≤ vec_len bytes.old }
     requires room { vec_len bytes.old + len ≤ vec_capacity bytes.old }
-    ensures items { bytes.new.items ≡ with_number_at 1 (volume + 88) 1 (take (volume + 112 + len) bytes.old.items ++ drop (volume + 112) bytes.old.items) }
+    ensures items { bytes.new.items ≡ with_number_at 1 (volume + 88) 1
+        (take (volume + 112 + len) bytes.old.items ++ drop (volume + 112) bytes.old.items) }
     ensures capacity { vec_capacity bytes.old ≤ vec_capacity bytes.new }
 {
     put_twice(bytes, volume + VOLUME_BYTES, len);
@@ -63,7 +66,8 @@ fn open_at(bytes: &mut Vec<u8>, volume: usize, len: usize)
 fn close_at(bytes: &mut Vec<u8>, volume: usize, second: usize, len: usize)
     requires inside { second + len ≤ vec_len bytes.old }
     requires behind { volume + 112 ≤ second }
-    ensures items { bytes.new.items ≡ with_pass_at volume 0 0 0 (with_number_at 1 (volume + 88) 0 (take second bytes.old.items ++ drop (second + len) bytes.old.items)) }
+    ensures items { bytes.new.items ≡ with_pass_at volume 0 0 0
+        (with_number_at 1 (volume + 88) 0 (take second bytes.old.items ++ drop (second + len) bytes.old.items)) }
     ensures capacity { vec_capacity bytes.new ≡ vec_capacity bytes.old }
 {
     take_out(bytes, second, len);
@@ -75,7 +79,8 @@ impl MpbBuf {
     /// Adds a disk's record behind the others, and gives its index.
     pub fn add_disk(&mut self, added: &DiskRecord) -> Result<u8, NoRoom>
         requires { disk_count_of (parts_of self.old) < MAX_DISKS }
-        ensures bytes { OnOk result (self.new ≡ record self.old { bytes = bytes_of (block_with_disk (parts_of self.old) (part_of added.now)) }) }
+        ensures bytes { OnOk result (self.new
+            ≡ with_block self.old (block_with_disk (parts_of self.old) (part_of added.now))) }
         ensures block { OnOk result (parts_of self.new ≡ block_with_disk (parts_of self.old) (part_of added.now)) }
         ensures index { IfOk result (λ i. i ≡ disk_count_of (parts_of self.old)) }
         ensures err { OnErr result (self.new ≡ self.old) }
@@ -99,12 +104,15 @@ impl MpbBuf {
     pub fn open_migration(&mut self, v: VolNo) -> Result<(), NoRoom>
         requires volume { v.0 < volume_count_of (parts_of self.old) }
         requires closed { migration_state_of (volume_at v.0 (parts_of self.old)) ≡ 0 }
-        ensures bytes { OnOk result (self.new ≡ record self.old { bytes = bytes_of (block_with_migration (parts_of self.old) v.0) }) }
+        ensures bytes { OnOk result (self.new ≡ with_block self.old (block_with_migration (parts_of self.old) v.0)) }
         ensures block { OnOk result (parts_of self.new ≡ block_with_migration (parts_of self.old) v.0) }
         ensures err { OnErr result (self.new ≡ self.old) }
         // It is refused exactly where it doesn't fit.
-        ensures variant { IsOk result ↔ (length self.old.bytes + map_room (map_at 0 (volume_at v.0 (parts_of self.old))) ≤ self.old.room) }
-        ensures told { IfErr result (λ e. (e.needed ≡ length self.old.bytes + map_room (map_at 0 (volume_at v.0 (parts_of self.old)))) × (e.room ≡ self.old.room)) }
+        ensures variant { IsOk result
+            ↔ (length self.old.bytes + map_room (map_at 0 (volume_at v.0 (parts_of self.old))) ≤ self.old.room) }
+        ensures told { IfErr result (λ e.
+            (e.needed ≡ length self.old.bytes + map_room (map_at 0 (volume_at v.0 (parts_of self.old))))
+            × (e.room ≡ self.old.room)) }
     {
         let volume = volume_place(&self.bytes, v.0);
         let len = map_size(&self.bytes, v.0, 0);
@@ -123,7 +131,7 @@ impl MpbBuf {
     pub fn close_migration(&mut self, v: VolNo)
         requires volume { v.0 < volume_count_of (parts_of self.old) }
         requires open { migration_state_of (volume_at v.0 (parts_of self.old)) ≢ 0 }
-        ensures bytes { self.new ≡ record self.old { bytes = bytes_of (block_without_migration (parts_of self.old) v.0) } }
+        ensures bytes { self.new ≡ with_block self.old (block_without_migration (parts_of self.old) v.0) }
         ensures block { parts_of self.new ≡ block_without_migration (parts_of self.old) v.0 }
     {
         let volume = volume_place(&self.bytes, v.0);

@@ -2,7 +2,7 @@
 use Rattle.std.proofs.Common.{◌≡◌, ℕ, zero, suc, ◌+◌, ◌-◌, ◌<◌, ◌≤◌, inl, inr, List, [], length, drop, Result, Ok, Err, refl, sym, ◌∙◌, ap, subst, arith}
 use Rattle.std.specs.Prelude.{◌↔◌, IsErrOf, ⊤}
 use Rattle.std.proofs.lemmas.Bool.{both_ways, cases_order}
-use Rattle.imsm_base.specs.declared.bounds.TheConstants.{HEADER_BYTES}
+use Rattle.units.specs.declared.bounds.TheConstants.{HEADER_BYTES}
 use Rattle.imsm_base.specs.Fields.{Part, number_at}
 use Rattle.imsm_base.specs.Whole.{IsSize}
 use Rattle.imsm_base.specs.Parts.{volumes_in, behind_disks, behind_volumes, block_in}

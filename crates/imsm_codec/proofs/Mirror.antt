@@ -1,46 +1,39 @@
 -- The words of a mirror without a pass: it has one map and two members, and its faults are those of a few tests.
-use Rattle.std.proofs.Common.{◌≡◌, ℕ, zero, suc, ◌+◌, ◌^◌, ◌<◌, ◌≤◌, ◌==◌, ◌&&◌, ◌||◌, not, Bool, true, false, cond, if◌then◌else◌, List, [], ◌∷◌, length, map, get_or, Option, Some, None, refl, sym, ◌∙◌, ap, subst, arith}
+use Rattle.std.proofs.Common.{◌≡◌, ℕ, ◌+◌, ◌^◌, ◌<◌, ◌≤◌, ◌==◌, ◌&&◌, ◌||◌, not, Bool, true, false, cond, if◌then◌else◌, List, [], ◌∷◌, length, map, get_or, Option, Some, None, refl, sym, ◌∙◌, ap, subst, arith}
 use Rattle.std.specs.Prelude.{◌↔◌, find, is_none, nat_le, nat_lt, slice_get}
 use Rattle.std.specs.Option.{option_map, option_map_or}
 use Rattle.std.specs.List.{list_any, list_all, range_with_len}
 use Rattle.std.specs.Int.{bit_at}
-use Rattle.std.proofs.lemmas.Bool.{and_parts, and_from, false≢true, eqb-true, eq-eqb, leb-true, le-leb, ltb-true, lt-ltb}
+use Rattle.std.proofs.lemmas.Bool.{and_parts, and_from, false≢true, eqb-true, eq-eqb, leb-true, le-leb, ltb-true, lt-ltb, not-true, not-false}
 use Rattle.std.proofs.lemmas.List.{nil_from_length}
-use Rattle.imsm_base.specs.declared.units.Level.{Level}
-use Rattle.imsm_base.specs.declared.units.Level.TheVariants.{One, Five, Ten}
-use Rattle.imsm_base.specs.declared.bounds.TheConstants.{METADATA_SECTORS, SECTOR_BYTES, FIRST_GENERATION_REFUSED}
+use Rattle.std.proofs.lemmas.Option.{slice_get_past, slice_get-get_or}
+use Rattle.units.specs.declared.volume.Level.{Level}
+use Rattle.units.specs.declared.volume.Level.TheVariants.{One, Five, Ten}
+use Rattle.units.specs.declared.bounds.TheConstants.{METADATA_SECTORS, SECTOR_BYTES, FIRST_GENERATION_REFUSED}
 use Rattle.imsm_base.specs.Fields.{Part}
 use Rattle.imsm_base.specs.Layout.{total_blocks_of, size_of, tail_size_of, generation_of, Block, Volume, Map, volume_size_of, pba_of, blocks_per_member_of, strip_of, level_byte_of, member_count_of, map_state_of, disk_count_of, map_count_of, migration_state_of, migration_type_of, policy_of}
-use Rattle.imsm_base.specs.Volumes.{Member, Fault, blank_map, first_map, member, members, slots_of, order_at, is_level_one, volume_level, has_policy, has_pass, has_migration, is_dirty, is_bad_slot, bad_slot, has_sectors, is_like, has_geometry, volume_rows, rows_of, overlaps, geometry_fault, volume_fault}
+use Rattle.imsm_base.specs.Volumes.{Member, Fault, blank_map, first_map, member, members, slots_of, order_at, is_level_one, volume_level, has_policy, has_pass, has_migration, is_dirty, is_bad_slot, bad_slot, has_sectors, is_like, has_geometry, volume_rows, overlaps, geometry_fault, volume_fault}
+use Rattle.units.specs.Levels.{rows_of}
 use Rattle.imsm_base.specs.Volumes.Fault.{BadLevel, BadPolicy, BadMigration, BadGeometry, Overlaps}
 use Rattle.imsm_base.specs.FirstForm.{IsCleanMirror, IsFirstForm}
 use Rattle.imsm_base.specs.Whole.{is_expected}
 use Rattle.imsm_codec.specs.Mpb.{disk_at, volume_at, blank_volume}
 
-slice_get_past : {X : Type 0} (xs : List X) (i : ℕ) → length xs ≤ i → slice_get xs i ≡ None
-slice_get_past [] i past = refl
-slice_get_past (x ∷ xs) zero past = absurd (omega arith)
-slice_get_past (x ∷ xs) (suc i) past = slice_get_past xs i (omega arith)
+-- a list of one map, or of two
+pub list_of_one : (ms : List Map) → length ms ≡ 1 → ms ≡ get_or ms 0 blank_map ∷ []
+list_of_one [] len = cc
+list_of_one (m ∷ ms) len = ap (λ (x : List Map). m ∷ x) (nil_from_length ms (omega arith))
 
-slice_get_here : (xs : List Part) (i : ℕ) → i < length xs → slice_get xs i ≡ Some (get_or xs i [])
-slice_get_here [] i below = absurd (omega arith)
-slice_get_here (x ∷ xs) zero below = refl
-slice_get_here (x ∷ xs) (suc i) below = slice_get_here xs i (omega arith)
-
--- one map where no pass is open
-one_of : (ms : List Map) → length ms ≡ 1 → ms ≡ get_or ms 0 blank_map ∷ []
-one_of [] len = cc
-one_of (m ∷ ms) len = ap (λ (x : List Map). m ∷ x) (nil_from_length ms (omega arith))
-
-not_false : (b : Bool) → not b ≡ false → b ≡ true
-not_false true e = refl
-not_false false e = sym e
+pub list_of_two : (ms : List Map) → length ms ≡ 2 → ms ≡ get_or ms 0 blank_map ∷ get_or ms 1 blank_map ∷ []
+list_of_two [] len = cc
+list_of_two (m ∷ ms) len = ap (λ (x : List Map). m ∷ x) (list_of_one ms (omega arith))
 
 no_pass_state : (v : Volume) → has_pass v ≡ false → (migration_state_of v == 0) ≡ true
-no_pass_state v idle = not_false (migration_state_of v == 0) idle
+no_pass_state v idle = not-false (migration_state_of v == 0) idle
 
+-- one map where no pass is open
 pub one_map : (v : Volume) → length v.maps ≡ map_count_of v → has_pass v ≡ false → v.maps ≡ first_map v ∷ []
-one_map v count idle = one_of v.maps (count ∙ ap (λ (b : Bool). if b then 1 else 2) (no_pass_state v idle))
+one_map v count idle = list_of_one v.maps (count ∙ ap (λ (b : Bool). if b then 1 else 2) (no_pass_state v idle))
 
 pub two_members : (v : Volume) → is_level_one v ≡ true → member_count_of (first_map v) ≡ 2
 two_members v one = eqb-true (member_count_of (first_map v)) 2 (and_parts (level_byte_of (first_map v) == 1) (member_count_of (first_map v) == 2) one).1
@@ -96,9 +89,6 @@ pub out_by_one : (v : Volume) (slot : ℕ) → v.maps ≡ first_map v ∷ [] →
 out_by_one v slot one = ap (list_any (λ m. bit_at (order_at slot m) 24 == 1)) one
 
 -- a map is like itself
-same_eqb : (n : ℕ) → (n == n) ≡ true
-same_eqb n = eq-eqb n n refl
-
 five_true : (a b c d e : Bool) → a ≡ true → b ≡ true → c ≡ true → d ≡ true → e ≡ true → (a && b && c && d && e) ≡ true
 five_true true true true true true p q r s t = refl
 five_true false b c d e p q r s t = p
@@ -107,8 +97,8 @@ five_true true true false d e p q r s t = r
 five_true true true true false e p q r s t = s
 five_true true true true true false p q r s t = t
 
-like_itself : (m : Map) → is_like m m ≡ true
-like_itself m = five_true _ _ _ _ _ (same_eqb (pba_of m)) (same_eqb (blocks_per_member_of m)) (same_eqb (strip_of m)) (same_eqb (level_byte_of m)) (same_eqb (member_count_of m))
+pub like_itself : (m : Map) → is_like m m ≡ true
+like_itself m = five_true _ _ _ _ _ (eq-eqb (pba_of m) (pba_of m) refl) (eq-eqb (blocks_per_member_of m) (blocks_per_member_of m) refl) (eq-eqb (strip_of m) (strip_of m) refl) (eq-eqb (level_byte_of m) (level_byte_of m) refl) (eq-eqb (member_count_of m) (member_count_of m) refl)
 
 -- the geometry of a mirror without a pass
 geometry_bools : (a b s r x y k : Bool) → (a && b && (true || s) && r && (x && (y && true)) && (true && true)) ≡ (a && b && r && x && y)
@@ -134,7 +124,7 @@ mirror_geometry b v one maps =
     ∙ geometry_bools (nat_le 1 size) (nat_le size (2 ^ 40)) (not (strip_of m == 0)) (nat_le size (blocks_per_member_of m)) (has_sectors b (pba_of m + size + METADATA_SECTORS) (member v 0)) (has_sectors b (pba_of m + size + METADATA_SECTORS) (member v 1)) true
 
 -- a chain of tests finds nothing exactly where each test passes
-test_none : (t : Bool) (x : Fault) (r : Option Fault) → (if t then Some x else r) ≡ None → (t ≡ false) × (r ≡ None)
+pub test_none : (t : Bool) (x : Fault) (r : Option Fault) → (if t then Some x else r) ≡ None → (t ≡ false) × (r ≡ None)
 test_none true x r e = cc
 test_none false x r e = (refl, e)
 
@@ -206,20 +196,16 @@ tests_from_mirror b v m =
     let geometry : geometry_fault b 0 v None ≡ None = sym (ap (geometry_fault b 0 v) slot) ∙ behind_migration.1 in
     record {
       level = one_from_level v m.level;
-      policy = not_false (has_policy v) behind_policy.0;
+      policy = not-false (has_policy v) behind_policy.0;
       idle = m.idle;
       clean = m.clean;
       normal = m.normal;
       slots = is_none_of (bad_slot b v) slot;
-      geometry = not_false (has_geometry b v) (test_none (not (has_geometry b v)) _ _ geometry).0;
+      geometry = not-false (has_geometry b v) (test_none (not (has_geometry b v)) _ _ geometry).0;
       in_sync = m.in_sync;
     }
 
 -- the tests together decide
-not_true_of : (x : Bool) → not x ≡ true → x ≡ false
-not_true_of true e = sym e
-not_true_of false e = refl
-
 abbrev all_of : List Bool → Bool
 all_of = list_all (λ t. t)
 
@@ -254,11 +240,11 @@ mirror_there b v p d s g o state is all =
       level = is.level;
       policy = sym is.policy ∙ policy.0;
       idle = is.idle;
-      clean = sym is.dirty ∙ not_true_of d clean.0;
+      clean = sym is.dirty ∙ not-true d clean.0;
       normal = sym is.normal ∙ eqb-true state 0 normal.0;
       slots = sym is.slots ∙ slots.0;
       geometry = sym is.geometry ∙ geometry.0;
-      in_sync = sym is.out ∙ not_true_of o sync.0;
+      in_sync = sym is.out ∙ not-true o sync.0;
     })
 
 mirror_back : (b : Block) (v : Volume) (p d s g o : Bool) (state : ℕ) → AreTested b v p d s g o state → IsCleanMirror b v →
@@ -314,7 +300,7 @@ no_sectors b needed index m past at =
 
 pub some_sectors : (b : Block) (needed index : ℕ) (m : Member) → index < length b.disks → m.index ≡ index → nat_le needed (total_blocks_of (disk_at index b)) ≡ has_sectors b needed m
 some_sectors b needed index m below at =
-    ap (λ (o : Option Part). option_map_or (λ d. nat_le needed (total_blocks_of d)) o false) (sym (slice_get_here b.disks index below))
+    ap (λ (o : Option Part). option_map_or (λ d. nat_le needed (total_blocks_of d)) o false) (sym (slice_get-get_or b.disks index [] below))
     ∙ ap (λ (i : ℕ). option_map_or (λ d. nat_le needed (total_blocks_of d)) (slice_get b.disks i) false) (sym at)
 
 -- the volume of the first form is the first
@@ -372,3 +358,7 @@ form_decided b size tail generation disks expected mirror is =
 -- another count of volumes
 pub not_one_volume : (b : Block) → (length b.volumes ≡ 1 → ⊥) → IsFirstForm b → ⊥
 not_one_volume b other f = other (ap (λ (vs : List Volume). length vs) f.one_volume.1)
+
+-- a result that is a test tells what the test tells
+pub same_test : (r s : Bool) (P : Type 0) → r ≡ s → s ≡ true ↔ P → r ≡ true ↔ P
+same_test r s P e h = subst (λ (t : Bool). t ≡ true ↔ P) (sym e) h

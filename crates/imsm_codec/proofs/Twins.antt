@@ -3,7 +3,7 @@ use Rattle.std.proofs.Common.{◌≡◌, ◌≢◌, ℕ, zero, suc, ◌<◌, ◌
 use Rattle.std.specs.Prelude.{filter}
 use Rattle.std.specs.List.{AllByRecursion}
 use Rattle.std.specs.Str.{bytes_eq}
-use Rattle.std.proofs.lemmas.Bool.{both_ways}
+use Rattle.std.proofs.lemmas.Bool.{both_ways, and_right}
 use Rattle.std.proofs.lemmas.Slice.Eq.{bytes_eq-Decides}
 use Rattle.imsm_base.specs.Fields.{Part}
 use Rattle.imsm_base.specs.Layout.{serial_of}
@@ -33,23 +33,19 @@ differ d e p q none same =
 unexpected_left : (d e : Part) → is_expected d ≡ false → are_twins d e ≡ false
 unexpected_left d e p = ap (λ (x : Bool). x && is_expected e && bytes_eq (serial_of d) (serial_of e)) p
 
-and_false : (x y : Bool) → y ≡ false → (x && y) ≡ false
-and_false true y e = e
-and_false false y e = refl
-
 not_equal : (x y : List ℕ) (b : Bool) → bytes_eq x y ≡ b → x ≢ y → b ≡ false
 not_equal x y false at differs = refl
 not_equal x y true at differs = absurd (differs ((bytes_eq-Decides x y).0 at))
 
 differ_no_twins : (d e : Part) → serial_of d ≢ serial_of e → are_twins d e ≡ false
 differ_no_twins d e differs =
-    and_false (is_expected d && is_expected e) (bytes_eq (serial_of d) (serial_of e))
+    and_right (is_expected d && is_expected e) (bytes_eq (serial_of d) (serial_of e))
     (not_equal (serial_of d) (serial_of e) (bytes_eq (serial_of d) (serial_of e)) refl differs)
 
 unexpected_right : (d e : Part) → is_expected e ≡ false → are_twins d e ≡ false
 unexpected_right d e p =
     ap (λ (x : Bool). x && bytes_eq (serial_of d) (serial_of e))
-    (and_false (is_expected d) (is_expected e) p)
+    (and_right (is_expected d) (is_expected e) p)
 
 others_at : (d e : Part) (ds : List Part) (b : Bool) → is_expected e ≡ b → (b ≡ true → serial_of d ≢ serial_of e) →
     AllByRecursion (Differs d) (serials ds) → AllByRecursion (Differs d) (map serial_of (cond b (e ∷ filter is_expected ds) (filter is_expected ds)))

@@ -68,7 +68,7 @@ laid_from_checks bytes g c =
 pub whole_apart : (bytes : List ℕ) (b : Block) → IsWholeBlock bytes b → IsWholeBlock bytes (block_in bytes)
 whole_apart bytes b w = subst (IsWholeBlock bytes) (sym (block_in-spelled bytes b w.spells)) w
 
-header_of-whole : (bytes : List ℕ) → IsWholeBlock bytes (block_in bytes) → (take 24 bytes ≡ the_signature) × IsSize (size_in bytes) × (size_in bytes ≡ length bytes)
+pub header_of-whole : (bytes : List ℕ) → IsWholeBlock bytes (block_in bytes) → (take 24 bytes ≡ the_signature) × IsSize (size_in bytes) × (size_in bytes ≡ length bytes)
 unfolding block_in
 header_of-whole bytes w = (w.signed, w.sized, w.given)
 

@@ -2,7 +2,7 @@
 -- any parts that are laid there.
 -- Source: load_imsm_mpb and parse_raid_devices of super-intel.c; the bounds are this project's own.
 use Rattle.std.specs.Prelude.{◌≡◌, ◌≢◌, ℕ, ◌+◌, ◌<◌, ◌≤◌, List, length, take}
-use Rattle.imsm_base.specs.declared.bounds.TheConstants.{HEADER_BYTES}
+use Rattle.units.specs.declared.bounds.TheConstants.{HEADER_BYTES}
 use Rattle.imsm_base.specs.Fields.{number_at}
 use Rattle.imsm_base.specs.Whole.{the_signature, block_sum, IsSize, IsAcceptedTail}
 use Rattle.imsm_base.specs.Parts.{volumes_in, volumes_room, behind_disks, behind_volumes, block_in}

@@ -2,7 +2,7 @@
 -- Source: load_imsm_mpb and parse_raid_devices of super-intel.c; their order and the bounds are this project's own.
 use Rattle.std.specs.Prelude.{◌≡◌, ◌≢◌, ℕ, ◌<◌, ◌≤◌, List, [], ◌++◌, length, take}
 use Rattle.std.specs.List.{concat, flat_map, AllByRecursion}
-use Rattle.imsm_base.specs.declared.bounds.TheConstants.{HEADER_BYTES}
+use Rattle.units.specs.declared.bounds.TheConstants.{HEADER_BYTES}
 use Rattle.imsm_base.specs.Fields.{Part, number_at}
 use Rattle.imsm_base.specs.Layout.{Volume, IsVolume, HasLengths, header_lengths, disk_lengths, volume_bytes}
 use Rattle.imsm_base.specs.Whole.{the_signature, block_sum, IsSize, IsAcceptedTail}
@@ -62,7 +62,8 @@ HasFault bytes (Checksum kept summed) =
     IsGiven bytes × ((kept ≡ number_at 4 0x20 block) × (summed ≡ block_sum block) × (kept ≢ summed))
 HasFault bytes (Counts disks volumes) =
     let block = given_block bytes in
-    IsGiven bytes × (IsSummed block × (disks ≡ number_at 1 0x38 block) × (volumes ≡ number_at 1 0x39 block) × ¬ HasTable block)
+    IsGiven bytes
+    × (IsSummed block × (disks ≡ number_at 1 0x38 block) × (volumes ≡ number_at 1 0x39 block) × ¬ HasTable block)
 HasFault bytes (Serials i j) = IsGiven bytes × HasTwins (given_block bytes) i j
 HasFault bytes (VolumeFault i) = IsGiven bytes × EndsPast (given_block bytes) i
 HasFault bytes (BadBlocks n) = IsGiven bytes × HasBadTail (given_block bytes) n

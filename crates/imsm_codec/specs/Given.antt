@@ -1,7 +1,7 @@
 -- The block that bytes begin with: as many of them as mpb_size says.
 -- Source: load_imsm_mpb of super-intel.c; the bounds on the size are this project's own.
 use Rattle.std.specs.Prelude.{◌≡◌, ℕ, ◌≤◌, List, length, take}
-use Rattle.imsm_base.specs.declared.bounds.TheConstants.{HEADER_BYTES}
+use Rattle.units.specs.declared.bounds.TheConstants.{HEADER_BYTES}
 use Rattle.imsm_base.specs.Fields.{number_at}
 use Rattle.imsm_base.specs.Whole.{the_signature, IsSize}
 

@@ -1,6 +1,6 @@
 -- What a view of a metadata block knows of its bytes. Source: this project's own.
 use Rattle.std.specs.Prelude.{◌≡◌, ℕ, ◌%◌, ◌≤◌, List, length}
-use Rattle.imsm_base.specs.declared.bounds.TheConstants.{MAX_BLOCK_BYTES}
+use Rattle.units.specs.declared.bounds.TheConstants.{MAX_BLOCK_BYTES}
 use Rattle.imsm_base.specs.Layout.{size_of}
 use Rattle.imsm_base.specs.Parts.{block_in, room_of}
 

@@ -14,7 +14,8 @@ use crate::fault::MpbFault;
 use crate::layout::check_volumes;
 use crate::mpb::MpbRef;
 use crate::tail::check_tail;
-use imsm_base::{HEADER_BYTES, MAX_BLOCK_BYTES, MAX_DISKS, MAX_VOLUMES, get_u32};
+use imsm_base::get_u32;
+use units::{HEADER_BYTES, MAX_BLOCK_BYTES, MAX_DISKS, MAX_VOLUMES};
 
 /// "Intel Raid ISM Cfg Sig. " (`MPB_SIGNATURE` of super-intel.c).
 const SIGNATURE: [u8; 24] = *b"Intel Raid ISM Cfg Sig. ";

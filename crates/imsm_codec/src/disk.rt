@@ -10,7 +10,8 @@ ghost use Rattle.imsm_codec.specs.Mpb.{disk_at};
 
 use crate::bytes::{behind, get_u8};
 use crate::fault::MpbFault;
-use imsm_base::{HEADER_BYTES, get_u32};
+use imsm_base::get_u32;
+use units::HEADER_BYTES;
 
 /// Bytes of a disk record.
 pub const DISK_BYTES: usize = 48;

@@ -30,8 +30,8 @@ pub enum MpbFault {
     /// The number of the first volume that ends, with its maps, past the block.
     #[error("volume {0} ends past the block")]
     Volume(u8),
-    /// The size of the tail in the header: more bytes than there are behind the volumes, or a tail that is neither empty
-    /// nor begins with the mark of an empty bad-block log.
+    /// The size of the tail in the header: more bytes than there are behind the volumes, or a tail that is neither
+    /// empty nor begins with the mark of an empty bad-block log.
     #[error("a tail of {0} bytes")]
     BadBlocks(u32),
 }

@@ -11,7 +11,7 @@ use crate::mpb::MpbRef;
 use crate::words::{
     all_hold, has_geometry, has_good_slots, has_pass, has_policy, is_any_out, is_level_one,
 };
-use imsm_base::{FIRST_GENERATION_REFUSED, SECTOR_BYTES, VolNo};
+use units::{FIRST_GENERATION_REFUSED, SECTOR_BYTES, VolNo};
 
 /// Whether each disk record is expected.
 fn are_all_expected(mpb: &MpbRef<'_>) -> bool

@@ -1,6 +1,6 @@
 //! The fields of a metadata block's header (`struct imsm_super` of super-intel.c).
 ghost use Rattle.std.specs.Prelude.{◌≡◌, ◌+◌, ◌*◌, ◌^◌, ◌<◌, ◌≤◌, length, take, drop};
-ghost use Rattle.imsm_base.specs.declared.bounds.TheConstants.{MAX_BLOCK_BYTES};
+ghost use Rattle.units.specs.declared.bounds.TheConstants.{MAX_BLOCK_BYTES};
 ghost use Rattle.imsm_base.specs.Layout.{size_of, checksum_of, family_of, orig_family_of, generation_of, attributes_of, disk_count_of, volume_count_of, tail_size_of};
 ghost use Rattle.imsm_codec.specs.Laid.{IsLaid};
 ghost use Rattle.imsm_codec.specs.Mpb.{block_bytes, block_of};

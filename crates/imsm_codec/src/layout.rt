@@ -7,7 +7,7 @@ ghost use Rattle.imsm_codec.specs.Checked.{IsDistinct, IsFilled, HasBlockFault};
 use crate::bytes::{behind, get_u8, get_u8_or_zero};
 use crate::disk::DISK_BYTES;
 use crate::fault::MpbFault;
-use imsm_base::HEADER_BYTES;
+use units::HEADER_BYTES;
 
 /// Bytes of a volume's record and state, which its maps stand behind.
 pub const VOLUME_BYTES: usize = 112;
@@ -52,7 +52,8 @@ pub(crate) fn volumes_at(bytes: &[u8]) -> &[u8]
 pub(crate) fn check_volumes(bytes: &[u8]) -> Result<&[u8], MpbFault>
     requires header { HEADER_BYTES ≤ length bytes.now }
     requires distinct { IsDistinct bytes.now }
-    ensures { MatchResult result (λ rest. (rest.now ≡ behind_volumes bytes.now) × IsFilled bytes.now) (λ e. HasBlockFault bytes.now e) }
+    ensures { MatchResult result (λ rest. (rest.now ≡ behind_volumes bytes.now) × IsFilled bytes.now)
+        (λ e. HasBlockFault bytes.now e) }
 {
     let mut rest = volumes_at(bytes);
     for i in 0..get_u8(bytes, 0x39) {

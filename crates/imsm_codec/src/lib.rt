@@ -1,4 +1,11 @@
-//! Metadata blocks: the check of a block's bytes, and the readers of its fields and places.
+//! Metadata blocks as they are read: the check of a block's bytes, and the readers of its fields.
+//!
+//! It owes that `check` answers Ok exactly where the bytes begin with a whole block, and else the first condition that
+//! fails; that each reader gives the field that the definitions of `imsm_base` name; and that whole disks and the
+//! first form are recognised, both ways. It takes no memory.
+//!
+//! Views (`imsm_view`), owned blocks (`imsm_buffer`), what is found on a disk (`mpb_store`), the report on images
+//! (`image_verdict`) and what a stage is opened with (`image_start`) stand on it.
 #![tactic(auto)]
 
 mod bytes;

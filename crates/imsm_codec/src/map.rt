@@ -8,7 +8,8 @@ ghost use Rattle.imsm_codec.specs.Mpb.{block_of, volume_at, map_at};
 use crate::bytes::{behind, get_u8, get_wide};
 use crate::layout::{MAP_BYTES, VOLUME_BYTES, map_len};
 use crate::mpb::MpbRef;
-use imsm_base::{Slot, VolNo, get_u16, get_u32};
+use imsm_base::{get_u16, get_u32};
+use units::{Slot, VolNo};
 
 impl MpbRef<'_> {
     /// The bytes from a volume's map on.

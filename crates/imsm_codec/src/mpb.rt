@@ -1,6 +1,6 @@
 //! Views of a metadata block.
 ghost use Rattle.std.specs.Prelude.{◌≤◌, length};
-ghost use Rattle.imsm_base.specs.declared.bounds.TheConstants.{MAX_BLOCK_BYTES};
+ghost use Rattle.units.specs.declared.bounds.TheConstants.{MAX_BLOCK_BYTES};
 ghost use Rattle.imsm_codec.specs.Laid.{IsLaid};
 
 /// A view of the bytes of a metadata block.

@@ -7,7 +7,8 @@ ghost use Rattle.imsm_codec.specs.Mpb.{block_of, disk_at};
 use crate::bytes::{get_name, get_wide};
 use crate::disk::record_at;
 use crate::mpb::MpbRef;
-use imsm_base::{Serial, get_u32};
+use imsm_base::get_u32;
+use units::Serial;
 
 impl MpbRef<'_> {
     /// The bytes from a disk's record on.

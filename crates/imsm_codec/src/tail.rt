@@ -7,7 +7,8 @@ ghost use Rattle.imsm_codec.specs.Checked.{IsFilled, IsChecked, HasBlockFault};
 
 use crate::bytes::behind;
 use crate::fault::MpbFault;
-use imsm_base::{HEADER_BYTES, get_u32};
+use imsm_base::get_u32;
+use units::HEADER_BYTES;
 
 /// The mark of a bad-block log (`BBM_LOG_SIGNATURE`).
 const LOG_MARK: u32 = 0xABAD_B10C;

@@ -10,7 +10,8 @@ ghost use Rattle.imsm_codec.specs.Mpb.{block_of, volume_at};
 use crate::bytes::{behind, get_name, get_u8, get_wide};
 use crate::layout::{volume_len, volumes_at};
 use crate::mpb::MpbRef;
-use imsm_base::{VolNo, get_u32};
+use imsm_base::get_u32;
+use units::VolNo;
 
 /// The bytes from a volume's record on.
 pub fn volume_from(bytes: &[u8], v: u8) -> &[u8]

@@ -7,7 +7,7 @@ ghost use Rattle.imsm_codec.specs.Mpb.{block_bytes, block_of, disk_at};
 
 use crate::disk::is_expected;
 use crate::mpb::MpbRef;
-use imsm_base::{METADATA_SECTORS, Serial};
+use units::{METADATA_SECTORS, Serial};
 
 /// Whether a record has the serial, and is expected if that is asked.
 fn is_own(mpb: &MpbRef<'_>, i: u8, own: &Serial, only_expected: bool) -> bool

@@ -1,13 +1,13 @@
 //! The volume words that the first form of a container is told by, each as its definition in imsm_base.
 ghost use Rattle.std.specs.Prelude.{◌≡◌, ◌+◌, ◌*◌, ◌^◌, ◌<◌, ◌≤◌, ◌&&◌, nat_le, is_none, true, false};
 ghost use Rattle.std.specs.List.{list_all, list_any};
-ghost use Rattle.imsm_base.specs.declared.bounds.TheConstants.{METADATA_SECTORS as METADATA};
+ghost use Rattle.units.specs.declared.bounds.TheConstants.{METADATA_SECTORS as METADATA};
 ghost use Rattle.imsm_base.specs.Layout.{volume_count_of, member_count_of, disk_count_of};
 ghost use Rattle.imsm_base.specs.Volumes.{Member, first_map, member, members, is_level_one, has_policy, has_pass, bad_slot, has_sectors, has_geometry};
 ghost use Rattle.imsm_codec.specs.Mpb.{block_of, volume_at};
 
 use crate::mpb::MpbRef;
-use imsm_base::{METADATA_SECTORS, Slot, VolNo};
+use units::{METADATA_SECTORS, Slot, VolNo};
 
 /// The low bits of a slot's entry, the index of its disk's record.
 const INDEX_RANGE: u32 = 1 << 24;

@@ -1,23 +1,24 @@
 -- A volume whose pass is opened: its slots stay, and the pass is of the type that is written.
-use Rattle.std.proofs.Common.{◌≡◌, ℕ, zero, suc, ◌<◌, ◌/◌, ◌%◌, ◌^◌, ◌==◌, ◌||◌, not, Bool, true, false, if◌then◌else◌, List, [], ◌∷◌, length, map, set, Some, None, refl, sym, ◌∙◌, ap, subst, arith}
+use Rattle.std.proofs.Common.{◌≡◌, ℕ, ◌<◌, ◌/◌, ◌%◌, ◌^◌, ◌==◌, ◌||◌, not, Bool, true, false, if◌then◌else◌, List, [], ◌∷◌, length, map, set, Some, None, refl, sym, ◌∙◌, ap, subst, arith}
 use Rattle.std.proofs.lemmas.List.{get_or-set_other, get_or-set_same, length-set}
 use Rattle.byteorder.specs.Endian.{little_bytes}
 use Rattle.imsm_base.specs.Fields.{Part, number}
 use Rattle.imsm_base.specs.Layout.{Block, Volume, volume_count_of, map_count_of, migration_state_of, migration_type_of}
 use Rattle.imsm_base.specs.Volumes.{Member, member, members, slots_of, order_at, first_map, has_pass}
-use Rattle.imsm_base.specs.EditsOfTables.{with_volume, changed_at, volume_with_pass, volume_with_migration}
+use Rattle.imsm_base.specs.EditsOfTables.{with_volume, volume_with_pass, volume_with_migration}
 use Rattle.imsm_codec.specs.Mpb.{volume_at, blank_volume}
 use Rattle.imsm_base.specs.Parts.{block_in, volume_in}
 use Rattle.imsm_base.proofs.Apart.{length-volumes}
 use Rattle.imsm_base.proofs.At.{volume_in-block}
 use Rattle.imsm_codec.proofs.Found.{volumes_counted}
-use Rattle.imsm_codec.proofs.Mirror.{one_map}
+use Rattle.imsm_codec.proofs.Mirror.{one_map, out_by_one}
 use Rattle.imsm_view.specs.declared.volume.Volume.{Volume as View}
 use Rattle.imsm_view.specs.Views.{IsVolume, pass_of, slot_view}
-use Rattle.imsm_view.proofs.Members.{marks, out_by_one}
+use Rattle.imsm_view.proofs.Members.{marks}
 use Rattle.imsm_edit.specs.Meanings.{Tells, with_migration, with_pass}
 use Rattle.imsm_edit.proofs.Changes.{volume_changed, block_as}
-use Rattle.imsm_edit.proofs.Told.{number-one}
+use Rattle.imsm_buffer.proofs.Replaced.{unchanged_at}
+use Rattle.imsm_buffer.proofs.TableEdits.{number-one}
 
 map_as : {X Y : Type 0} (f g : X → Y) (xs : List X) → ((x : X) → f x ≡ g x) → map f xs ≡ map g xs
 map_as f g [] same = refl
@@ -90,14 +91,9 @@ told_pass b mid k kind view is below made count long small =
     })
 
 -- a change that leaves the volume leaves the block
-same_at : {A : Type 0} (k : ℕ) (xs : List A) → changed_at k (λ x. x) xs ≡ xs
-same_at k [] = refl
-same_at zero (x ∷ xs) = refl
-same_at (suc k) (x ∷ xs) = ap (λ (ys : List _). x ∷ ys) (same_at k xs)
-
 pub left_alone : (b : Block) (k : ℕ) → has_pass (volume_at k b) ≡ true → b ≡ with_volume k with_migration b
 left_alone b k e =
-    sym (block_as b k with_migration (λ v. v) (ap (λ (p : Bool). opened_if p (volume_at k b)) e) ∙ ap (λ (vs : List Volume). record b { volumes = vs }) (same_at k b.volumes))
+    sym (block_as b k with_migration (λ v. v) (ap (λ (p : Bool). opened_if p (volume_at k b)) e) ∙ ap (λ (vs : List Volume). record b { volumes = vs }) (unchanged_at k b.volumes))
 
 pub opened_block : (b new : Block) (k : ℕ) → has_pass (volume_at k b) ≡ false → new ≡ with_volume k volume_with_migration b → new ≡ with_volume k with_migration b
 opened_block b new k e made = made ∙ block_as b k volume_with_migration with_migration (sym (ap (λ (p : Bool). opened_if p (volume_at k b)) e))

@@ -18,6 +18,7 @@ use Rattle.imsm_view.specs.Views.{IsVolume, pass_of, slot_view}
 use Rattle.imsm_view.proofs.Words.{list_any-map}
 use Rattle.imsm_edit.specs.Meanings.{has_out, state_now, state_before, seen_now, seen_before, is_init, with_states, edited, at_point, Tells}
 use Rattle.imsm_edit.proofs.Changes.{volume_changed, block_twice, block_as}
+use Rattle.imsm_buffer.proofs.TableEdits.{number-one}
 
 open_init : (p : Bool) (t : ℕ) → option_map_or is_init (if p then Some t else None) false ≡ (p && is_init t)
 open_init true t = refl
@@ -103,9 +104,6 @@ dirty_pass on v =
     pass_by (volume_with_dirty on v) v
     (ap number (get_or-set_other v.state 4 2 w [] (λ e. omega arith)))
     (ap number (get_or-set_other v.state 4 3 w [] (λ e. omega arith)))
-
-pub number-one : (n : ℕ) → n < 256 → number (little_bytes 1 n) ≡ n
-number-one n small = omega arith
 
 pub point_pass : (unit : ℕ) (v : Volume) → length v.state ≡ 10 → migration_type_of v < 256 → pass_of (at_point unit v) ≡ pass_of v
 point_pass unit v long small =

@@ -22,7 +22,8 @@ pub record AreFacts (b : Block) (facts : EditFacts) : Type 0 where
   pub started : length facts.started.items ≡ length b.volumes
   pub broken : length facts.broken.items ≡ length b.volumes
   pub working : length facts.working.items ≡ length b.disks
-  pub supported : (k : ℕ) → k < length b.volumes → is_told facts.started.items k ≡ true → volume_fault b k (volume_at k b) ≡ None
+  pub supported : (k : ℕ) → k < length b.volumes → is_told facts.started.items k ≡ true
+      → volume_fault b k (volume_at k b) ≡ None
 
 -- some slot is out of sync, and one whose disk isn't expected
 abbrev pub has_out : Volume → Bool
@@ -31,8 +32,8 @@ has_out v = list_any (λ m. m.is_out) (members v)
 abbrev pub has_lost : Block → Volume → Bool
 has_lost b v = list_any (λ m. m.is_out && not (is_expected_at b m.index)) (members v)
 
--- The state that a volume has (0 normal, 1 uninitialised, 2 degraded, 3 failed), and while a pass is open the state that
--- it comes from.
+-- The state that a volume has (0 normal, 1 uninitialised, 2 degraded, 3 failed), and while a pass is open the state
+-- that it comes from.
 abbrev pub state_now : Bool → Volume → ℕ
 state_now broken v = if broken then 3 else (if has_out v then 2 else (if has_pass_of (0 ∷ []) v then 1 else 0))
 
@@ -46,7 +47,8 @@ is_init type = list_any (λ t. t == type) (0 ∷ [])
 abbrev pub seen_now : Bool → View → ℕ
 seen_now broken view =
     if broken then 3
-    else (if list_any (λ s. s.out) view.slots.items then 2 else (if option_map_or is_init view.pass false then 1 else 0))
+    else (if list_any (λ s. s.out) view.slots.items then 2
+    else (if option_map_or is_init view.pass false then 1 else 0))
 
 abbrev pub seen_before : Bool → View → ℕ
 seen_before broken view =
@@ -60,7 +62,8 @@ pub record Tells (b : Block) (v : Volume) (view : View) : Type 0 where
 -- with a pass the second map has the state now, and without one the first
 abbrev pub with_states : Block → Bool → Volume → Volume
 with_states b broken v =
-    if has_pass v then with_map 1 (map_with_state (state_now broken v)) (with_map 0 (map_with_state (state_before b broken v)) v)
+    if has_pass v
+    then with_map 1 (map_with_state (state_now broken v)) (with_map 0 (map_with_state (state_before b broken v)) v)
     else with_map 0 (map_with_state (state_now broken v)) v
 
 -- the block with volume k edited, and its states set

@@ -3,7 +3,7 @@ ghost use Rattle.std.specs.Prelude.{◌≡◌, ◌<◌, length, true};
 ghost use Rattle.imsm_edit.specs.Meanings.{is_told};
 
 use arrayvec::ArrayVec;
-use imsm_base::{MAX_DISKS, MAX_VOLUMES, VolNo};
+use units::{MAX_DISKS, MAX_VOLUMES, VolNo};
 
 /// For each volume of a block, whether it is started and whether it is broken, and for each record, whether its disk is
 /// working.

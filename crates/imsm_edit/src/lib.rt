@@ -1,5 +1,8 @@
 //! Edits of a metadata block by what they mean for a started volume: each makes its change, and then the states of the
 //! volume's maps are what its slots and its pass say.
+//!
+//! It owes that an edit is the one that the definitions name and changes nothing else. No command stands on it yet: a
+//! replay edits a block's generation and dirty bit alone (`control_state`).
 #![tactic(auto)]
 
 mod facts;

@@ -9,9 +9,9 @@ ghost use Rattle.imsm_edit.specs.Meanings.{AreFacts, is_told, marked_dirty, mark
 
 use crate::facts::EditFacts;
 use crate::states::set_states;
-use imsm_base::VolNo;
 use imsm_buffer::MpbBuf;
 use imsm_view::{Volume, volume_of};
+use units::VolNo;
 
 /// The view of a volume that is supported.
 pub(crate) fn view_of(book: &MpbBuf, v: VolNo) -> Volume

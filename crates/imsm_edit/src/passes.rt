@@ -11,8 +11,8 @@ ghost use Rattle.imsm_edit.specs.Meanings.{AreFacts, is_told, with_migration, st
 use crate::facts::EditFacts;
 use crate::marks::view_of;
 use crate::states::set_states;
-use imsm_base::VolNo;
 use imsm_buffer::{MpbBuf, NoRoom};
+use units::VolNo;
 
 /// Opens a migration of a volume, where none is open.
 fn open_pass(book: &mut MpbBuf, v: VolNo) -> Result<(), NoRoom>
@@ -22,7 +22,9 @@ fn open_pass(book: &mut MpbBuf, v: VolNo) -> Result<(), NoRoom>
     ensures err { OnErr result (book.new ≡ book.old) }
     ensures variant { IsOk result ↔ ((has_pass (volume_at v.0 (parts_of book.old)) ≡ true)
         ⊎ (length book.old.bytes + map_room (first_map (volume_at v.0 (parts_of book.old))) ≤ book.old.room)) }
-    ensures told { IfErr result (λ e. (e.needed ≡ length book.old.bytes + map_room (first_map (volume_at v.0 (parts_of book.old)))) × (e.room ≡ book.old.room)) }
+    ensures told { IfErr result (λ e.
+        (e.needed ≡ length book.old.bytes + map_room (first_map (volume_at v.0 (parts_of book.old))))
+        × (e.room ≡ book.old.room)) }
 {
     if book.parts().migr_state(v) != 0 {
         return Ok(());
@@ -35,13 +37,16 @@ pub fn start_pass(book: &mut MpbBuf, v: VolNo, kind: u8, facts: &EditFacts) -> R
     requires volume { v.0 < volume_count_of (parts_of book.old) }
     requires facts { AreFacts (parts_of book.old) facts.now }
     requires started { is_told facts.now.started.items v.0 ≡ true }
-    ensures block { OnOk result (parts_of book.new ≡ started_pass (parts_of book.old) v.0 (is_told facts.now.broken.items v.0) kind) }
+    ensures block { OnOk result (parts_of book.new
+        ≡ started_pass (parts_of book.old) v.0 (is_told facts.now.broken.items v.0) kind) }
     ensures room { OnOk result (book.new.room ≡ book.old.room) }
     ensures err { OnErr result (book.new ≡ book.old) }
     // It is refused exactly where no pass is open and a second map doesn't fit.
     ensures variant { IsOk result ↔ ((has_pass (volume_at v.0 (parts_of book.old)) ≡ true)
         ⊎ (length book.old.bytes + map_room (first_map (volume_at v.0 (parts_of book.old))) ≤ book.old.room)) }
-    ensures told { IfErr result (λ e. (e.needed ≡ length book.old.bytes + map_room (first_map (volume_at v.0 (parts_of book.old)))) × (e.room ≡ book.old.room)) }
+    ensures told { IfErr result (λ e.
+        (e.needed ≡ length book.old.bytes + map_room (first_map (volume_at v.0 (parts_of book.old))))
+        × (e.room ≡ book.old.room)) }
 {
     let mut view = view_of(book, v);
     open_pass(book, v)?;

@@ -8,9 +8,9 @@ ghost use Rattle.imsm_codec.specs.Mpb.{volume_at};
 ghost use Rattle.imsm_buffer.specs.Buffer.{parts_of};
 ghost use Rattle.imsm_edit.specs.Meanings.{is_init, seen_now, seen_before, with_states, Tells};
 
-use imsm_base::VolNo;
 use imsm_buffer::MpbBuf;
 use imsm_view::{SlotView, Volume};
+use units::VolNo;
 
 fn is_any_out(slots: &[SlotView]) -> bool
     ensures { result ≡ list_any (λ s. s.out) slots.now }

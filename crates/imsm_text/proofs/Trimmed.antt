@@ -1,18 +1,15 @@
 -- The zeros at the end of bytes.
-use Rattle.std.proofs.Common.{◌≡◌, ◌≢◌, ◌≤◌, ◌<◌, ◌&&◌, ◌-◌, ℕ, suc, zero, List, [], ◌∷◌, Bool, true, false, cond, drop, take, get_or, length, refl, sym, ◌∙◌, ap, arith}
+use Rattle.std.proofs.Common.{◌≡◌, ◌≢◌, ◌≤◌, ◌<◌, ◌&&◌, ◌-◌, ℕ, suc, zero, List, [], ◌∷◌, true, false, cond, drop, take, get_or, length, refl, sym, ◌∙◌, ap, arith}
 use Rattle.std.specs.Prelude.{◌==◌}
 use Rattle.std.specs.List.{list_all}
 use Rattle.std.proofs.lemmas.Bool.{ne_eqb}
+use Rattle.std.proofs.Math.Bool.{and-false}
 use Rattle.imsm_text.specs.Text.{without_zeros}
-
-and_false : (b : Bool) → (b && false) ≡ false
-and_false true = refl
-and_false false = refl
 
 not_all_zero : (xs : List ℕ) (k : ℕ) → k < length xs → get_or xs k 0 ≢ 0 → list_all (λ b. b == 0) xs ≡ false
 not_all_zero [] k below some = absurd (omega arith)
 not_all_zero (x ∷ xs) zero below some = ap (λ b. b && list_all (λ b. b == 0) xs) (ne_eqb x 0 some)
-not_all_zero (x ∷ xs) (suc k) below some = ap (λ b. (x == 0) && b) (not_all_zero xs k (omega arith) some) ∙ and_false (x == 0)
+not_all_zero (x ∷ xs) (suc k) below some = ap (λ b. (x == 0) && b) (not_all_zero xs k (omega arith) some) ∙ and-false (x == 0)
 
 -- what stands before zeros alone, with no zero at its end
 pub take-without_zeros : (bytes : List ℕ) (end : ℕ) → end ≤ length bytes → list_all (λ b. b == 0) (drop end bytes) ≡ true

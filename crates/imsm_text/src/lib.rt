@@ -1,4 +1,8 @@
-//! How bytes and numbers of a metadata block are printed, and lines of them.
+//! How bytes, names and numbers of a metadata block are printed, and lines of them.
+//!
+//! It owes each text as a function of the value: a byte as it is or as two digits, a name or a serial without the
+//! zeros at its end, a number in decimal or in eight hexadecimal digits. `examine` prints blocks by it, and each
+//! command its lines.
 #![tactic(auto)]
 
 mod bytes;

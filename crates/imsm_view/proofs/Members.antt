@@ -4,14 +4,17 @@ use Rattle.std.specs.Prelude.{find, nat_lt, nat_le, slice_get, slice_index}
 use Rattle.std.specs.Option.{option_map_or}
 use Rattle.std.specs.List.{list_any, list_all, range_with_len}
 use Rattle.std.specs.Int.{bit_at}
-use Rattle.std.proofs.lemmas.Bool.{and_parts, false≢true, eqb-true, eq-eqb, ltb-true, lt-ltb, le-ltb}
-use Rattle.std.proofs.lemmas.List.{nil_from_length, take_all, get_or-map}
+use Rattle.std.proofs.lemmas.Bool.{and_parts, false≢true, eqb-true, ltb-true, lt-ltb, le-ltb, or_right}
+use Rattle.std.proofs.lemmas.List.{take_all, get_or-map}
 use Rattle.std.proofs.lemmas.List.FromFn.{length-map-range_with_len, get_or-map-range_with_len}
 use Rattle.std.proofs.lemmas.List.Folds.{list_all_at, list_any_more, list_all_more}
+use Rattle.std.proofs.lemmas.Option.{slice_get-get_or, slice_get_past}
+use Rattle.std.proofs.Math.Bool.{and-true}
 use Rattle.imsm_base.specs.Fields.{Part}
-use Rattle.imsm_base.specs.Layout.{Block, Volume, Map, member_count_of, map_count_of, migration_state_of, disk_count_of, total_blocks_of, pba_of, blocks_per_member_of, strip_of, level_byte_of}
-use Rattle.imsm_base.specs.Volumes.{Member, blank_map, first_map, member, members, order_at, is_bad_slot, bad_slot, is_like, has_sectors}
+use Rattle.imsm_base.specs.Layout.{Block, Volume, Map, member_count_of, map_count_of, migration_state_of, disk_count_of, total_blocks_of}
+use Rattle.imsm_base.specs.Volumes.{Member, first_map, member, members, order_at, is_bad_slot, bad_slot, is_like, has_sectors}
 use Rattle.imsm_codec.specs.Mpb.{map_at, disk_at}
+use Rattle.imsm_codec.proofs.Mirror.{like_itself, list_of_one, list_of_two}
 
 pub length_members : (v : Volume) → length (members v) ≡ member_count_of (first_map v)
 length_members v = length-map-range_with_len (member v) 0 (member_count_of (first_map v))
@@ -33,11 +36,7 @@ any_taken : (p : Member → Bool) (xs : List Member) (i n : ℕ) → i < n → n
 any_taken p [] i n lt le here = absurd (omega arith)
 any_taken p (x ∷ xs) i zero lt le here = absurd (omega arith)
 any_taken p (x ∷ xs) zero (suc n) lt le here = ap (λ (t : Bool). t || list_any p (take n xs)) here
-any_taken p (x ∷ xs) (suc i) (suc n) lt le here = or_true (p x) _ (any_taken p xs i n (omega arith) (omega arith) here)
-  where
-    or_true : (a b : Bool) → b ≡ true → (a || b) ≡ true
-    or_true true b e = refl
-    or_true false b e = e
+any_taken p (x ∷ xs) (suc i) (suc n) lt le here = or_right (p x) _ (any_taken p xs i n (omega arith) (omega arith) here)
 
 pub any_here : (p : Member → Bool) (v : Volume) (i n : ℕ) → i < n → n ≤ member_count_of (first_map v) → p (member v i) ≡ true → list_any p (take n (members v)) ≡ true
 any_here p v i n lt le here =
@@ -119,19 +118,11 @@ index_below b v i good below =
     subst (λ (n : ℕ). n < disk_count_of b) (index_here v i below) (ltb-true _ _ (or_false _ _ fine))
 
 -- a volume has one map or two
-one_of : (ms : List Map) → length ms ≡ 1 → ms ≡ get_or ms 0 blank_map ∷ []
-one_of [] len = cc
-one_of (m ∷ ms) len = ap (λ (x : List Map). m ∷ x) (nil_from_length ms (omega arith))
-
-two_of : (ms : List Map) → length ms ≡ 2 → ms ≡ get_or ms 0 blank_map ∷ get_or ms 1 blank_map ∷ []
-two_of [] len = cc
-two_of (m ∷ ms) len = ap (λ (x : List Map). m ∷ x) (one_of ms (omega arith))
-
 pub maps_one : (v : Volume) → length v.maps ≡ map_count_of v → map_count_of v ≡ 1 → v.maps ≡ first_map v ∷ []
-maps_one v count one = one_of v.maps (count ∙ one)
+maps_one v count one = list_of_one v.maps (count ∙ one)
 
 pub maps_two : (v : Volume) → length v.maps ≡ map_count_of v → map_count_of v ≡ 2 → v.maps ≡ first_map v ∷ map_at 1 v ∷ []
-maps_two v count two = two_of v.maps (count ∙ two)
+maps_two v count two = list_of_two v.maps (count ∙ two)
 
 one_or_two : (b : Bool) (n : ℕ) → n ≡ (if b then 1 else 2) → (n ≡ 2 → ⊥) → n ≡ 1
 one_or_two true n e other = e
@@ -150,59 +141,23 @@ not_one v n e other = sym e ∙ two_or_one (migration_state_of v == 0) n e other
 abbrev pub marks : ℕ → Map → Bool
 marks slot m = bit_at (order_at slot m) 24 == 1
 
-pub out_by_one : (v : Volume) (slot : ℕ) → v.maps ≡ first_map v ∷ [] → (member v slot).is_out ≡ (marks slot (first_map v) || false)
-out_by_one v slot one = ap (list_any (marks slot)) one
-
 pub out_by_two : (v : Volume) (slot : ℕ) → v.maps ≡ first_map v ∷ map_at 1 v ∷ [] → (member v slot).is_out ≡ (marks slot (first_map v) || (marks slot (map_at 1 v) || false))
 out_by_two v slot two = ap (list_any (marks slot)) two
-
-pub or_nothing : (b : Bool) → (b || false) ≡ b
-or_nothing true = refl
-or_nothing false = refl
-
--- a map is like itself
-same_eqb : (n : ℕ) → (n == n) ≡ true
-same_eqb n = eq-eqb n n refl
-
-five_true : (a b c d e : Bool) → a ≡ true → b ≡ true → c ≡ true → d ≡ true → e ≡ true → (a && b && c && d && e) ≡ true
-five_true true true true true true p q r s t = refl
-five_true false b c d e p q r s t = p
-five_true true false c d e p q r s t = q
-five_true true true false d e p q r s t = r
-five_true true true true false e p q r s t = s
-five_true true true true true false p q r s t = t
-
-like_itself : (m : Map) → is_like m m ≡ true
-like_itself m = five_true _ _ _ _ _ (same_eqb (pba_of m)) (same_eqb (blocks_per_member_of m)) (same_eqb (strip_of m)) (same_eqb (level_byte_of m)) (same_eqb (member_count_of m))
 
 pub alike_one : (v : Volume) → v.maps ≡ first_map v ∷ [] → list_all (is_like (first_map v)) v.maps ≡ true
 alike_one v one = ap (list_all (is_like (first_map v))) one ∙ ap (λ (t : Bool). t && true) (like_itself (first_map v))
 
-and_nothing : (b : Bool) → (b && true) ≡ b
-and_nothing true = refl
-and_nothing false = refl
-
 pub alike_two : (v : Volume) → v.maps ≡ first_map v ∷ map_at 1 v ∷ [] → list_all (is_like (first_map v)) v.maps ≡ is_like (first_map v) (map_at 1 v)
 alike_two v two =
     ap (list_all (is_like (first_map v))) two ∙ ap (λ (t : Bool). t && (is_like (first_map v) (map_at 1 v) && true)) (like_itself (first_map v))
-    ∙ and_nothing _
+    ∙ and-true _
 
 pub same_count : (m other : Map) → is_like m other ≡ true → member_count_of other ≡ member_count_of m
 same_count m other like = eqb-true _ _ (and_parts _ _ like).1
 
 -- the records of indices
-slice_get_past : (xs : List Part) (i : ℕ) → length xs ≤ i → slice_get xs i ≡ None
-slice_get_past [] i past = refl
-slice_get_past (x ∷ xs) zero past = absurd (omega arith)
-slice_get_past (x ∷ xs) (suc i) past = slice_get_past xs i (omega arith)
-
-pub slice_get_here : {X : Type 0} (xs : List X) (i : ℕ) (d : X) → i < length xs → slice_get xs i ≡ Some (get_or xs i d)
-slice_get_here [] i d below = absurd (omega arith)
-slice_get_here (x ∷ xs) zero d below = refl
-slice_get_here (x ∷ xs) (suc i) d below = slice_get_here xs i d (omega arith)
-
 pub of_record : (f : Part → Bool) (b : Block) (i : ℕ) → i < length b.disks → f (disk_at i b) ≡ option_map_or f (slice_get b.disks i) false
-of_record f b i below = ap (λ (o : Option Part). option_map_or f o false) (sym (slice_get_here b.disks i [] below))
+of_record f b i below = ap (λ (o : Option Part). option_map_or f o false) (sym (slice_get-get_or b.disks i [] below))
 
 pub of_no_record : (f : Part → Bool) (b : Block) (i : ℕ) → length b.disks ≤ i → false ≡ option_map_or f (slice_get b.disks i) false
 of_no_record f b i past = ap (λ (o : Option Part). option_map_or f o false) (sym (slice_get_past b.disks i past))

@@ -1,14 +1,15 @@
 -- What the absence of a fault tells of a volume.
-use Rattle.std.proofs.Common.{◌≡◌, ℕ, ◌+◌, ◌^◌, ◌&&◌, ◌||◌, ◌==◌, not, Bool, true, false, if◌then◌else◌, Option, Some, None, refl, sym, ◌∙◌}
+use Rattle.std.proofs.Common.{◌≡◌, ℕ, ◌+◌, ◌^◌, ◌&&◌, ◌||◌, ◌==◌, not, Bool, true, if◌then◌else◌, Option, Some, None, refl, sym, ◌∙◌}
 use Rattle.std.specs.Prelude.{is_none, nat_le}
 use Rattle.std.specs.Option.{option_map}
 use Rattle.std.specs.List.{list_all}
-use Rattle.std.proofs.lemmas.Bool.{and_parts}
-use Rattle.imsm_base.specs.declared.bounds.TheConstants.{METADATA_SECTORS}
+use Rattle.std.proofs.lemmas.Bool.{and_parts, not-false}
+use Rattle.units.specs.declared.bounds.TheConstants.{METADATA_SECTORS}
 use Rattle.imsm_base.specs.Layout.{Block, Volume, volume_size_of, pba_of, blocks_per_member_of, strip_of}
 use Rattle.imsm_base.specs.Volumes.{Fault, first_map, members, volume_level, volume_rows, has_policy, has_migration, bad_slot, has_geometry, has_sectors, is_level_one, is_like, geometry_fault, volume_fault}
 use Rattle.imsm_base.specs.Volumes.Fault.{BadIndex, BadGeometry, Overlaps}
 use Rattle.imsm_view.specs.Views.{overlap_of}
+use Rattle.imsm_codec.proofs.Mirror.{test_none}
 
 -- the tests behind the first three, each as a value
 abbrev behind : Option ℕ → Bool → Option ℕ → Option Fault
@@ -19,17 +20,9 @@ behind_is : (b : Block) (k : ℕ) (v : Volume) (slot : Option ℕ) → geometry_
 behind_is b k v (Some slot) = refl
 behind_is b k v None = refl
 
-test_none : (t : Bool) (x : Fault) (r : Option Fault) → (if t then Some x else r) ≡ None → (t ≡ false) × (r ≡ None)
-test_none true x r e = cc
-test_none false x r e = (refl, e)
-
-not_false : (b : Bool) → not b ≡ false → b ≡ true
-not_false true e = refl
-not_false false e = sym e
-
 no_slot : (slot : Option ℕ) (geometry : Bool) (over : Option ℕ) → behind slot geometry over ≡ None → (slot ≡ None) × (geometry ≡ true)
 no_slot (Some slot) geometry over e = cc
-no_slot None geometry over e = (refl, not_false geometry (test_none (not geometry) BadGeometry _ e).0)
+no_slot None geometry over e = (refl, not-false geometry (test_none (not geometry) BadGeometry _ e).0)
 
 -- no slot is bad, and the geometry is good
 pub supported_by : (b : Block) (k : ℕ) (v : Volume) → volume_fault b k v ≡ None → (bad_slot b v ≡ None) × (has_geometry b v ≡ true)

@@ -2,7 +2,7 @@
 use Rattle.std.proofs.Common.{◌≡◌, ℕ, ◌+◌, ◌-◌, ◌*◌, ◌/◌, ◌%◌, ◌<◌, ◌≤◌, sym, subst, min, arith}
 use Rattle.std.proofs.Math.Nat.{div-eq_of_lt-le, mul-le-mul, mul-le-mul_right, mul_comm}
 use Rattle.std.proofs.lemmas.Grind.{div_ceil_times}
-use Rattle.imsm_base.specs.Volumes.{rounded_up}
+use Rattle.units.specs.Levels.{rounded_up}
 
 -- the quotient, rounded up, is the one of the definition
 pub ceil_is : (a b q : ℕ) → 0 < b → q ≡ a / b + min 1 (a % b) → q ≡ rounded_up a b

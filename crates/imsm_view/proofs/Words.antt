@@ -4,14 +4,16 @@ use Rattle.std.specs.Prelude.{nat_le, slice_get}
 use Rattle.std.specs.Option.{option_map_or}
 use Rattle.std.specs.List.{list_any}
 use Rattle.std.proofs.lemmas.List.{length-map, get_or-map}
+use Rattle.std.proofs.lemmas.Option.{slice_get-get_or}
 use Rattle.imsm_base.specs.Layout.{Block, Volume, member_count_of, migration_type_of, map_state_of, unit_of, checkpoint_of}
-use Rattle.imsm_base.specs.Volumes.{Member, first_map, member, members, has_pass, is_dirty, suffices, volume_level, volume_rows}
+use Rattle.imsm_base.specs.Volumes.{Member, first_map, member, members, has_pass, is_dirty, volume_level, volume_rows}
+use Rattle.units.specs.Levels.{suffices}
 use Rattle.imsm_base.specs.Volumes as word
 use Rattle.imsm_view.specs.declared.volume.Volume.{Volume as View}
 use Rattle.imsm_view.specs.declared.volume.SlotView.{SlotView}
 use Rattle.imsm_view.specs.Views.{IsVolume, slot_view}
 use Rattle.imsm_view.specs.Questions.{is_slot_in_sync, is_in_sync_at, is_resync, is_unfinished, can_run, pass_start, HasWords}
-use Rattle.imsm_view.proofs.Members.{length_members, member_here, slice_get_here}
+use Rattle.imsm_view.proofs.Members.{length_members, member_here}
 
 pub list_any-map : {X Y : Type 0} (p : Y → Bool) (h : X → Y) (xs : List X) → list_any p (map h xs) ≡ list_any (λ x. p (h x)) xs
 list_any-map p h [] = refl
@@ -40,7 +42,7 @@ in_sync_word b v view is slot below =
     let there : slot < length (members v) = omega arith in
     let mapped : length (map (slot_view b) (members v)) ≡ length (members v) = length-map (members v) (slot_view b) in
     ap (λ (ss : List SlotView). option_map_or is_slot_in_sync (slice_get ss slot) false) is.slots
-    ∙ ap (λ (o : Option SlotView). option_map_or is_slot_in_sync o false) (slice_get_here (map (slot_view b) (members v)) slot (slot_view b blank) (omega arith))
+    ∙ ap (λ (o : Option SlotView). option_map_or is_slot_in_sync o false) (slice_get-get_or (map (slot_view b) (members v)) slot (slot_view b blank) (omega arith))
     ∙ ap is_slot_in_sync (get_or-map (slot_view b) (members v) slot blank (slot_view b blank) there)
     ∙ ap (λ (m : Member). word.is_in_sync b m) (member_here v slot blank below)
 

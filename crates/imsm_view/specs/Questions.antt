@@ -4,7 +4,8 @@ use Rattle.std.specs.Prelude.{◌≡◌, ◌<◌, ℕ, ◌*◌, ◌==◌, ◌&&�
 use Rattle.std.specs.Option.{option_map_or}
 use Rattle.std.specs.List.{list_any}
 use Rattle.imsm_base.specs.Layout.{Block, Volume, member_count_of}
-use Rattle.imsm_base.specs.Volumes.{first_map, member, suffices}
+use Rattle.imsm_base.specs.Volumes.{first_map, member}
+use Rattle.units.specs.Levels.{suffices}
 use Rattle.imsm_base.specs.Volumes as word
 use Rattle.imsm_view.specs.declared.volume.Volume.{Volume as View}
 use Rattle.imsm_view.specs.declared.volume.SlotView.{SlotView}
@@ -43,7 +44,8 @@ wants_pass view = is_unfinished view || list_any (λ s. s.out && s.expected) vie
 
 -- what the view answers are the words of this volume of the block
 pub record HasWords (b : Block) (v : Volume) (view : View) : Type 0 where
-  pub in_sync : (slot : ℕ) → slot < member_count_of (first_map v) → is_in_sync_at view slot ≡ word.is_in_sync b (member v slot)
+  pub in_sync : (slot : ℕ) → slot < member_count_of (first_map v)
+      → is_in_sync_at view slot ≡ word.is_in_sync b (member v slot)
   pub unfinished : is_unfinished view ≡ word.is_unfinished v
   pub degraded : is_degraded view ≡ word.is_degraded b v
   pub runs : can_run view ≡ word.can_run b v

@@ -2,8 +2,8 @@
 -- Source: `Volumes` of imsm_base, over imsm_vol and imsm_map of super-intel.c.
 use Rattle.std.specs.Prelude.{◌≡◌, ℕ, ◌+◌, ◌&&◌, nat_le, Bool, length, find, map, Option, Some, None, if◌then◌else◌}
 use Rattle.std.specs.List.{list_all, range_with_len}
-use Rattle.imsm_base.specs.declared.bounds.TheConstants.{METADATA_SECTORS}
-use Rattle.imsm_base.specs.declared.units.Geometry.{Geometry}
+use Rattle.units.specs.declared.bounds.TheConstants.{METADATA_SECTORS}
+use Rattle.units.specs.declared.volume.Geometry.{Geometry}
 use Rattle.imsm_base.specs.Layout.{Block, Volume, volume_size_of, unit_of, checkpoint_of, migration_type_of, pba_of, blocks_per_member_of, strip_of, map_state_of, member_count_of}
 use Rattle.imsm_base.specs.Volumes.{Member, first_map, members, is_expected_at, is_dirty, has_pass, volume_level, volume_rows, has_sectors, is_like, overlaps}
 use Rattle.imsm_view.specs.declared.volume.Volume.{Volume as View}

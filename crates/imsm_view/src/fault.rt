@@ -1,6 +1,6 @@
 //! Why a volume isn't supported.
-use imsm_base::{Slot, VolNo};
 use thiserror::Error;
+use units::{Slot, VolNo};
 
 /// Why there is no view of a volume: the first of these conditions that holds. What is read of a map is read of the
 /// first one, unless the text says otherwise.

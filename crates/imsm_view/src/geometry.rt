@@ -1,16 +1,17 @@
 //! How a volume lies on its members.
 ghost use Rattle.std.specs.Prelude.{◌≡◌, ◌≢◌, ◌+◌, ◌-◌, ◌*◌, ◌^◌, ◌<◌, ◌≤◌, ◌⊎◌, ◌&&◌, nat_le, Some, None, MatchOption, true, false};
 ghost use Rattle.std.specs.List.{list_all};
-ghost use Rattle.imsm_base.specs.declared.bounds.TheConstants.{METADATA_SECTORS as METADATA};
-ghost use Rattle.imsm_base.specs.declared.units.Level.TheVariants.{One};
+ghost use Rattle.units.specs.declared.bounds.TheConstants.{METADATA_SECTORS as METADATA};
+ghost use Rattle.units.specs.declared.volume.Level.TheVariants.{One};
 ghost use Rattle.imsm_base.specs.Layout.{volume_count_of, member_count_of, map_count_of};
-ghost use Rattle.imsm_base.specs.Volumes.{first_map, member, members, volume_level, rows_of, rounded_up, data_members, has_sectors, is_like, has_geometry};
+ghost use Rattle.imsm_base.specs.Volumes.{first_map, member, members, volume_level, has_sectors, is_like, has_geometry};
+ghost use Rattle.units.specs.Levels.{rows_of, rounded_up, data_members};
 ghost use Rattle.imsm_codec.specs.Mpb.{block_of, volume_at, map_at};
 ghost use Rattle.imsm_view.specs.Views.{IsGeometry, has_room};
 
 use crate::slot::{slot_count, table_index};
-use imsm_base::{Geometry, Level, METADATA_SECTORS, Slot, VolNo};
 use imsm_codec::MpbRef;
+use units::{Geometry, Level, METADATA_SECTORS, Slot, VolNo};
 
 /// The most sectors that a volume has.
 const MAX_VOLUME_SECTORS: u64 = 1 << 40;
@@ -76,7 +77,8 @@ fn has_sectors(mpb: &MpbRef<'_>, v: VolNo, slot: Slot, pba: u64, rows: u64) -> b
     requires volume { v.0 < volume_count_of (block_of mpb.now) }
     requires slot { slot.0 < member_count_of (first_map (volume_at v.0 (block_of mpb.now))) }
     requires rows { rows < 2 ^ 41 }
-    ensures { result ≡ has_sectors (block_of mpb.now) (pba + rows + METADATA) (member (volume_at v.0 (block_of mpb.now)) slot.0) }
+    ensures { result ≡ has_sectors (block_of mpb.now) (pba + rows + METADATA)
+        (member (volume_at v.0 (block_of mpb.now)) slot.0) }
 {
     match table_index(mpb, v, slot) {
         Some(index) => holds(mpb.disk_blocks(index), pba, rows),
@@ -88,7 +90,8 @@ fn has_sectors(mpb: &MpbRef<'_>, v: VolNo, slot: Slot, pba: u64, rows: u64) -> b
 fn have_sectors(mpb: &MpbRef<'_>, v: VolNo, pba: u64, rows: u64) -> bool
     requires volume { v.0 < volume_count_of (block_of mpb.now) }
     requires rows { rows < 2 ^ 41 }
-    ensures { result ≡ list_all (has_sectors (block_of mpb.now) (pba + rows + METADATA)) (members (volume_at v.0 (block_of mpb.now))) }
+    ensures { result ≡ list_all (has_sectors (block_of mpb.now) (pba + rows + METADATA))
+        (members (volume_at v.0 (block_of mpb.now))) }
 {
     for slot in 0..slot_count(mpb, v) {
         if !has_sectors(mpb, v, Slot(slot), pba, rows) {
@@ -103,7 +106,8 @@ fn is_like(mpb: &MpbRef<'_>, v: VolNo, m: u8, other: u8) -> bool
     requires volume { v.0 < volume_count_of (block_of mpb.now) }
     requires map { m < map_count_of (volume_at v.0 (block_of mpb.now)) }
     requires other { other < map_count_of (volume_at v.0 (block_of mpb.now)) }
-    ensures { result ≡ is_like (map_at m (volume_at v.0 (block_of mpb.now))) (map_at other (volume_at v.0 (block_of mpb.now))) }
+    ensures { result ≡ is_like (map_at m (volume_at v.0 (block_of mpb.now)))
+        (map_at other (volume_at v.0 (block_of mpb.now))) }
 {
     mpb.map_pba(v, other) == mpb.map_pba(v, m)
         && mpb.map_blocks(v, other) == mpb.map_blocks(v, m)
@@ -115,7 +119,8 @@ fn is_like(mpb: &MpbRef<'_>, v: VolNo, m: u8, other: u8) -> bool
 /// Whether the second map, where it is there, lies as the first does.
 fn are_alike(mpb: &MpbRef<'_>, v: VolNo) -> bool
     requires { v.0 < volume_count_of (block_of mpb.now) }
-    ensures { result ≡ list_all (is_like (first_map (volume_at v.0 (block_of mpb.now)))) (volume_at v.0 (block_of mpb.now)).maps }
+    ensures { result ≡ list_all (is_like (first_map (volume_at v.0 (block_of mpb.now))))
+        (volume_at v.0 (block_of mpb.now)).maps }
 {
     mpb.maps(v) == 1 || is_like(mpb, v, 0, 1)
 }
@@ -139,7 +144,8 @@ pub(crate) fn geometry_of(mpb: &MpbRef<'_>, v: VolNo, level: Level) -> Option<Ge
     requires volume { v.0 < volume_count_of (block_of mpb.now) }
     requires level { volume_level (volume_at v.0 (block_of mpb.now)) ≡ Some level }
     ensures { MatchOption result (has_geometry (block_of mpb.now) (volume_at v.0 (block_of mpb.now)) ≡ false)
-        (λ g. (has_geometry (block_of mpb.now) (volume_at v.0 (block_of mpb.now)) ≡ true) × IsGeometry (volume_at v.0 (block_of mpb.now)) g) }
+        (λ g. (has_geometry (block_of mpb.now) (volume_at v.0 (block_of mpb.now)) ≡ true)
+        × IsGeometry (volume_at v.0 (block_of mpb.now)) g) }
 {
     let size = mpb.vol_size(v);
     let strip = mpb.map_strip(v, 0);

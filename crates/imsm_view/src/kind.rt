@@ -5,8 +5,8 @@ ghost use Rattle.imsm_base.specs.Volumes.{level_of, volume_level, has_policy, ha
 ghost use Rattle.imsm_codec.specs.Mpb.{block_of, volume_at};
 ghost use Rattle.imsm_view.specs.Views.{pass_of};
 
-use imsm_base::{Level, VolNo};
 use imsm_codec::MpbRef;
+use units::{Level, VolNo};
 
 /// The level of a map, by its byte and its number of members.
 fn level_of(byte: u8, members: u8) -> Option<Level>

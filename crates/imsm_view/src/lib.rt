@@ -1,5 +1,10 @@
-//! Typed views of the volumes of a metadata block: what is supported of a volume, how it lies on its members, and which
-//! of them are in sync.
+//! Typed views of the volumes of a metadata block: what is supported of a volume, how it lies on its members, and
+//! which of them are in sync.
+//!
+//! It owes that a view is there exactly where the volume is supported, that an error is the first of its faults, and
+//! that a view answers the words that `imsm_base` defines.
+//!
+//! `volume_verdict` and `imsm_edit` ask views; `new_container` uses the count of rows alone.
 #![tactic(auto)]
 
 mod fault;

@@ -7,8 +7,8 @@ ghost use Rattle.imsm_codec.specs.Mpb.{block_of, volume_at};
 ghost use Rattle.imsm_view.specs.Views.{overlap_of};
 
 use crate::slot::{has_index, index_of, slot_count};
-use imsm_base::{Slot, VolNo};
 use imsm_codec::MpbRef;
+use units::{Slot, VolNo};
 
 /// Whether a sector lies before the end of a range.
 fn is_before_end(sector: u64, first: u64, length: u64) -> bool
@@ -22,7 +22,8 @@ fn is_before_end(sector: u64, first: u64, length: u64) -> bool
 fn do_meet(mpb: &MpbRef<'_>, v: VolNo, other: VolNo) -> bool
     requires volume { v.0 < volume_count_of (block_of mpb.now) }
     requires other { other.0 < volume_count_of (block_of mpb.now) }
-    ensures { result ≡ do_meet (first_map (volume_at v.0 (block_of mpb.now))) (first_map (volume_at other.0 (block_of mpb.now))) }
+    ensures { result ≡ do_meet (first_map (volume_at v.0 (block_of mpb.now)))
+        (first_map (volume_at other.0 (block_of mpb.now))) }
 {
     let one = mpb.map_pba(v, 0);
     let two = mpb.map_pba(other, 0);
@@ -35,7 +36,8 @@ fn do_meet(mpb: &MpbRef<'_>, v: VolNo, other: VolNo) -> bool
 fn share_disk(mpb: &MpbRef<'_>, v: VolNo, other: VolNo) -> bool
     requires volume { v.0 < volume_count_of (block_of mpb.now) }
     requires other { other.0 < volume_count_of (block_of mpb.now) }
-    ensures { result ≡ list_any (has_index (volume_at other.0 (block_of mpb.now))) (members (volume_at v.0 (block_of mpb.now))) }
+    ensures { result ≡ list_any (has_index (volume_at other.0 (block_of mpb.now)))
+        (members (volume_at v.0 (block_of mpb.now))) }
 {
     for slot in 0..slot_count(mpb, v) {
         if has_index(mpb, other, index_of(mpb, v, Slot(slot))) {

@@ -2,11 +2,11 @@
 ghost use Rattle.std.specs.Prelude.{◌≡◌, ◌<◌, ◌&&◌, ◌||◌, map, not, Some, false};
 ghost use Rattle.std.specs.List.{list_any, count_by};
 ghost use Rattle.std.specs.Option.{option_map_or};
-ghost use Rattle.imsm_base.specs.Volumes.{suffices};
+ghost use Rattle.units.specs.Levels.{suffices};
 ghost use Rattle.imsm_view.specs.Questions.{is_slot_in_sync, is_in_sync_at, is_resync, is_unfinished, is_degraded, can_run, is_resumed, pass_start, wants_pass};
 
 use crate::volume::{SlotView, Volume};
-use imsm_base::{Level, Slot};
+use units::{Level, Slot};
 
 /// This project's mark of a checkpoint that a pass goes on from.
 const CHECKPOINT_MARK: u32 = 0x494D_0001;

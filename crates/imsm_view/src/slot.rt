@@ -9,8 +9,8 @@ ghost use Rattle.imsm_view.specs.Views.{slot_view};
 
 use crate::volume::SlotView;
 use arrayvec::ArrayVec;
-use imsm_base::{MAX_MEMBERS, Slot, VolNo};
 use imsm_codec::MpbRef;
+use units::{MAX_MEMBERS, Slot, VolNo};
 
 /// The low bits of a slot's entry, the index of its disk's record.
 const INDEX_RANGE: u32 = 1 << 24;
@@ -38,7 +38,8 @@ pub(crate) fn index_of(mpb: &MpbRef<'_>, v: VolNo, slot: Slot) -> u32
 pub(crate) fn table_index(mpb: &MpbRef<'_>, v: VolNo, slot: Slot) -> Option<u8>
     requires volume { v.0 < volume_count_of (block_of mpb.now) }
     requires slot { slot.0 < member_count_of (first_map (volume_at v.0 (block_of mpb.now))) }
-    ensures { MatchOption result (disk_count_of (block_of mpb.now) ≤ (member (volume_at v.0 (block_of mpb.now)) slot.0).index)
+    ensures { MatchOption result
+        (disk_count_of (block_of mpb.now) ≤ (member (volume_at v.0 (block_of mpb.now)) slot.0).index)
         (λ i. (i ≡ (member (volume_at v.0 (block_of mpb.now)) slot.0).index) × (i < disk_count_of (block_of mpb.now))) }
 {
     let index = index_of(mpb, v, slot);

@@ -14,15 +14,16 @@ use crate::kind::{has_migration, has_policy, pass_of, volume_level};
 use crate::overlap::overlap_of;
 use crate::slot::{bad_slot, slots_of};
 use crate::volume::Volume;
-use imsm_base::{Geometry, VolNo};
 use imsm_codec::MpbRef;
+use units::{Geometry, VolNo};
 
 /// How a volume lies, where nothing is wrong with it.
 #[tactic(auto, using(imsm_codec::proofs::Places::some_map))]
 fn supported(mpb: &MpbRef<'_>, v: VolNo) -> Result<Geometry, VolumeFault>
     requires { v.0 < volume_count_of (block_of mpb.now) }
     ensures { MatchResult result
-        (λ g. (volume_fault (block_of mpb.now) v.0 (volume_at v.0 (block_of mpb.now)) ≡ None) × IsGeometry (volume_at v.0 (block_of mpb.now)) g)
+        (λ g. (volume_fault (block_of mpb.now) v.0 (volume_at v.0 (block_of mpb.now)) ≡ None)
+        × IsGeometry (volume_at v.0 (block_of mpb.now)) g)
         (λ e. volume_fault (block_of mpb.now) v.0 (volume_at v.0 (block_of mpb.now)) ≡ Some (fault_of e)) }
 {
     let Some(level) = volume_level(mpb, v) else {
@@ -74,7 +75,8 @@ pub fn volume_of(mpb: &MpbRef<'_>, v: VolNo) -> Result<Volume, VolumeFault>
     // There is a view of each volume that nothing is wrong with.
     ensures ok { IsOk result ↔ (volume_fault (block_of mpb.now) v.0 (volume_at v.0 (block_of mpb.now)) ≡ None) }
     // An error is exactly what is wrong first.
-    ensures fault { (e : Fault) → IsErrOf result e ↔ (volume_fault (block_of mpb.now) v.0 (volume_at v.0 (block_of mpb.now)) ≡ Some (fault_of e)) }
+    ensures fault { (e : Fault) → IsErrOf result e
+        ↔ (volume_fault (block_of mpb.now) v.0 (volume_at v.0 (block_of mpb.now)) ≡ Some (fault_of e)) }
 {
     let geometry = supported(mpb, v)?;
     Ok(view_of(mpb, v, geometry))

@@ -1,6 +1,6 @@
 //! The view of a volume.
 use arrayvec::ArrayVec;
-use imsm_base::{Geometry, MAX_MEMBERS};
+use units::{Geometry, MAX_MEMBERS};
 
 /// A slot of a volume: the index of its disk's record by the first map, whether some map calls it out of sync, and
 /// whether the record is configured and hasn't failed.

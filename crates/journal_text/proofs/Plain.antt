@@ -8,6 +8,7 @@ use Rattle.std.proofs.lemmas.Str.Parse.{digit_at}
 use Rattle.std.proofs.lemmas.Bool.Decides.{nat_tests, Decides-below_and}
 use Rattle.std.proofs.lemmas.List.Elements.{All-from_get_or, All-head, All-tail, All-take}
 use Rattle.std.proofs.lemmas.List.Sums.{list_all-from_AllPass}
+use Rattle.std.proofs.lemmas.Bool.{and_from}
 use Rattle.hex.specs.Hex.{encode_with, encode_lower, lower_digits}
 use Rattle.array_model.specs.declared.journal.Event.{Event}
 use Rattle.array_model.specs.declared.journal.Event.TheVariants.{Begin, End, Spare, Ready, Pass, Point, PassEnd, Active, Clean, Unblock, Posted, Applied, Declined, Submit, Pending, Ack, Idle, Fault, Kill, Takeover}
@@ -37,16 +38,13 @@ digit_plain =
     (Decides-below_and (λ k. nat_le 48 (slice_index lower_digits k)) (λ k. nat_le 48 (slice_index lower_digits k) ≡ true) digits_plain
     (λ k. (λ h. h, λ h. h)) refl (λ n. refl) 16).0 refl
 
-both : (x y : Bool) → x ≡ true → y ≡ true → (x && y) ≡ true
-both x y h k = rw (h, k) refl
-
 hex_plain : (bytes : List ℕ) → All IsByte bytes → IsPlain (encode_lower bytes)
 unfolding encode_with
 hex_plain [] all = refl
 hex_plain (b ∷ bytes) all =
     let small : b < 256 = All-head IsByte b bytes all in
-    both _ _ (digit_plain (b / 16) (omega arith))
-    (both _ _ (digit_plain (b % 16) (omega arith)) (hex_plain bytes (All-tail IsByte b bytes all)))
+    and_from _ _ (digit_plain (b / 16) (omega arith))
+    (and_from _ _ (digit_plain (b % 16) (omega arith)) (hex_plain bytes (All-tail IsByte b bytes all)))
 
 chosen_plain : (b : Bool) (bytes : List ℕ) → All IsByte bytes → IsPlain (encode_lower (if b then take 8 bytes else bytes))
 chosen_plain true bytes all = hex_plain (take 8 bytes) (All-take IsByte 8 bytes all)

@@ -13,8 +13,8 @@ use Rattle.std.proofs.lemmas.List.Elements.{All-take, All-get_or}
 use Rattle.std.proofs.lemmas.Slice.Eq.{bytes_eq-Decides}
 use Rattle.hex.specs.Hex.{IsBytes, decode_of, encode_lower, lower_digits}
 use Rattle.hex.proofs.HexLemmas.{decode_of-encode_lower, length-encode_with}
-use Rattle.imsm_base.specs.declared.units.DiskNo.{DiskNo}
-use Rattle.imsm_base.specs.declared.units.VolNo.{VolNo}
+use Rattle.units.specs.declared.disk.DiskNo.{DiskNo}
+use Rattle.units.specs.declared.volume.VolNo.{VolNo}
 use Rattle.array_model.specs.declared.journal.Event.{Event}
 use Rattle.array_model.specs.declared.journal.Event.TheVariants.{Begin, End, Spare, Ready, Pass, Point, PassEnd, Active, Clean, Unblock, Posted, Applied, Declined, Submit, Pending, Ack, Idle, Fault, Kill, Takeover}
 use Rattle.array_model.specs.declared.journal.Answer.{Answer}

@@ -1,4 +1,6 @@
 //! The text of a journal: a line for each entry, written without memory. `specs/` says what the line of an entry is.
+//!
+//! It owes that line, byte for byte, and that two journals with one text are one journal. `image_replay` prints by it.
 #![tactic(auto)]
 
 mod law;

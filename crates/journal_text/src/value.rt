@@ -5,7 +5,7 @@ ghost use Rattle.arrayvec.specs.ArrayVec.{array_vec_len};
 ghost use Rattle.journal_text.specs.Lines.{is_repeated, value_word, spaced};
 
 use crate::pieces::{LINE_BYTES, Line, push_word};
-use imsm_base::Sector;
+use units::Sector;
 
 /// Bytes of the value that a write repeats over its sector.
 const VALUE_BYTES: usize = 8;

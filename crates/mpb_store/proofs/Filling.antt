@@ -7,7 +7,7 @@ use Rattle.std.proofs.lemmas.List.{append-nil, take_all, drop_all, drop-replicat
 use Rattle.std.proofs.lemmas.List.FromFn.{map-range_with_len_more}
 use Rattle.std.proofs.lemmas.Grind.{flat_map-append}
 use Rattle.imsm_base.specs.Edits.{first_sector}
-use Rattle.imsm_base.specs.declared.units.Sector.{Sector}
+use Rattle.units.specs.declared.disk.Sector.{Sector}
 use Rattle.mpb_store.specs.Sectors.{block_sector, block_sectors, bytes_in, filled}
 
 -- the first bytes of bytes with zeros behind them

@@ -1,6 +1,6 @@
 -- A reading follows what stands on the disk.
 use Rattle.std.proofs.Common.{◌≡◌, ℕ, zero, suc, ◌+◌, ◌-◌, ◌/◌, ◌%◌, ◌<◌, ◌≤◌, ◌&&◌, ◌⊎◌, inl, inr, Bool, true, false, cond, List, [], ◌∷◌, ◌++◌, length, take, drop, get_or, Option, Some, None, refl, sym, ◌∙◌, ap, subst, arith}
-use Rattle.std.specs.Prelude.{◌==◌, ◌||◌, not, slice_get, slice_index_or}
+use Rattle.std.specs.Prelude.{◌||◌, not, slice_get, slice_index_or}
 use Rattle.std.specs.List.{AllByRecursion, range_with_len}
 use Rattle.std.specs.Option.{IsSomeAnd}
 use Rattle.std.specs.Str.{bytes_eq}
@@ -10,17 +10,19 @@ use Rattle.std.proofs.lemmas.List.Folds.{list_any-append}
 use Rattle.std.proofs.lemmas.Option.{get_or_from_slice_get}
 use Rattle.std.proofs.lemmas.List.{append-nil, append_assoc, nil_from_length, length-append, length-drop, take_all, take_more, drop_more, take-append-le, drop-append-le}
 use Rattle.std.proofs.lemmas.List.FromFn.{get_or-range_with_len}
-use Rattle.imsm_base.specs.declared.units.Sector.{Sector}
+use Rattle.units.specs.declared.disk.Sector.{Sector}
 use Rattle.imsm_base.specs.Fields.{number}
-use Rattle.imsm_base.specs.Whole.{the_signature, anchor_place, extended_count}
+use Rattle.imsm_base.specs.Whole.{the_signature}
+use Rattle.units.specs.Places.{anchor_place, extended_count}
 use Rattle.imsm_codec.specs.Given.{size_in}
-use Rattle.device_log.specs.Log.{Call, What, Read as LoggedRead, Write, Sync}
-use Rattle.device_log.specs.Cells.{Cell, Stands, cell_after, cell_called, cell_at, resting}
+use Rattle.device_log.specs.Log.{Call, Read as LoggedRead}
+use Rattle.device_log.specs.Cells.{Cell, Stands, cell_after, resting}
 use Rattle.member_bank.specs.Told.{Keeps, Logs, Gives}
 use Rattle.mpb_store.specs.declared.reading.ReadStep.TheVariants.{Read, Over}
 use Rattle.mpb_store.specs.Reading.{Reading, is_size, extended_by, places_of, places_left, first_read, bytes_at}
-use Rattle.mpb_store.specs.Banks.{has_failed, blank_sector, sector_after, IsRead, IsReadOf, LogsReads, StandsSo, IsReadFrom, bytes_left}
+use Rattle.mpb_store.specs.Banks.{has_failed, blank_sector, sector_after, IsReadOf, LogsReads, StandsSo, IsReadFrom, bytes_left}
 use Rattle.mpb_store.proofs.Placing.{extended_few, length-places_of, left_is, left_open, left_below, room_left}
+use Rattle.device_log.proofs.Cells.{cell_after-append, cell_called-read}
 
 -- THE PLACE THAT IS NEXT
 
@@ -129,30 +131,15 @@ stands_more n at bytes p s whole sector is below there so = record {
 
 -- READS CHANGE NOTHING
 
-after_read : (d p : ℕ) (c : Cell) (what : What) (went : Bool) → IsRead what → cell_at p c what went ≡ c
-after_read d p c (LoggedRead place) went reads = refl
-after_read d p c (Write place sectors stored) went reads = absurd reads
-after_read d p c Sync went reads = absurd reads
-
-after_call : (d p : ℕ) (c : Cell) (call : Call) → IsRead call.what → cell_called d p c call ≡ c
-after_call d p c call reads = at (call.disk == d) where
-  at : (b : Bool) → cond b (cell_at p c call.what call.went) c ≡ c
-  at true = after_read d p c call.what call.went reads
-  at false = refl
-
 after_reads : (d p : ℕ) (c : Cell) (reads : List Call) → AllByRecursion (IsReadOf d) reads → cell_after d p c reads ≡ c
 after_reads d p c [] all = refl
 after_reads d p c (call ∷ reads) all =
-    ap (λ (k : Cell). cell_after d p k reads) (after_call d p c call all.0.read) ∙ after_reads d p c reads all.1
-
-after_both : (d p : ℕ) (c : Cell) (log reads : List Call) → cell_after d p c (log ++ reads) ≡ cell_after d p (cell_after d p c log) reads
-after_both d p c [] reads = refl
-after_both d p c (call ∷ log) reads = after_both d p (cell_called d p c call) log reads
+    ap (λ (k : Cell). cell_after d p k reads) (cell_called-read d p c call all.0.read) ∙ after_reads d p c reads all.1
 
 pub sector_same : (o : List (List Sector)) (log reads : List Call) (d p : ℕ) → AllByRecursion (IsReadOf d) reads → sector_after o (log ++ reads) d p ≡ sector_after o log d p
 sector_same o log reads d p all =
     let c : Cell = resting (slice_index_or (slice_index_or o d []) p blank_sector) in
-    ap (λ (k : Cell). k.stood) (after_both d p c log reads ∙ after_reads d p (cell_after d p c log) reads all)
+    ap (λ (k : Cell). k.stood) (cell_after-append d p c log reads ∙ after_reads d p (cell_after d p c log) reads all)
 
 sector_given : (o : List (List Sector)) (log : List Call) (d p : ℕ) (s : Sector) → Stands o log d p s → sector_after o log d p ≡ s
 sector_given o log d p s stands = at (slice_get (slice_index_or o d []) p) refl stands where

@@ -2,6 +2,6 @@ mod Filling
 mod Placing
 mod Judged
 mod Followed
-mod Told
+pub mod Told
 mod Looked
 pub mod Standing

@@ -5,8 +5,8 @@ use Rattle.std.specs.List.{range_with_len}
 use Rattle.std.proofs.lemmas.List.{append_assoc, map-append, length-drop, take_all}
 use Rattle.std.proofs.lemmas.Bool.{false≢true}
 use Rattle.std.proofs.lemmas.Bool.Decides.{nat_tests}
-use Rattle.imsm_base.specs.declared.units.Sector.{Sector}
-use Rattle.imsm_base.specs.Whole.{anchor_place}
+use Rattle.units.specs.declared.disk.Sector.{Sector}
+use Rattle.units.specs.Places.{anchor_place}
 use Rattle.device_log.specs.Log.{Call, Read as LoggedRead}
 use Rattle.member_bank.specs.Told.{Logs}
 use Rattle.mpb_store.specs.declared.reading.ReadStep.TheVariants.{Read}

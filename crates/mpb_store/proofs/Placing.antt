@@ -3,57 +3,47 @@ use Rattle.std.proofs.Common.{◌≡◌, ℕ, suc, ◌+◌, ◌-◌, ◌/◌, �
 use Rattle.std.specs.Prelude.{nat_le, nat_lt, ◌==◌, ◌↔◌, IsErrOf}
 use Rattle.std.specs.List.{range_with_len}
 use Rattle.std.specs.Str.{bytes_eq}
-use Rattle.std.proofs.lemmas.Bool.{false≢true, cases_order}
+use Rattle.std.proofs.lemmas.Bool.{cases_order, and_parts, and_from}
 use Rattle.std.proofs.lemmas.Bool.Decides.{nat_tests}
 use Rattle.std.proofs.lemmas.Slice.Eq.{bytes_eq-Decides}
 use Rattle.std.proofs.lemmas.List.{drop_more, drop_all}
 use Rattle.std.proofs.lemmas.List.FromFn.{length-range_with_len, get_or-range_with_len}
-use Rattle.imsm_base.specs.Whole.{the_signature, anchor_place, extended_count, IsSize}
+use Rattle.imsm_base.specs.Whole.{the_signature, IsSize}
+use Rattle.units.specs.Places.{anchor_place, extended_count}
 use Rattle.imsm_codec.specs.Given.{size_in, IsSized}
 use Rattle.imsm_codec.specs.Faults.{HasFault}
 use Rattle.imsm_codec.specs.declared.fault.MpbFault.{MpbFault}
 use Rattle.imsm_codec.specs.declared.fault.MpbFault.TheVariants.{Cut}
 use Rattle.mpb_store.specs.Reading.{cut_size_of, Reading, is_size, is_sized, extended_by, places_of, places_left, IsCut}
 
-and_true : (a b : Bool) → a ≡ true → b ≡ true → (a && b) ≡ true
-and_true a b p q = rw (p, q) refl
-
-and_left : (a b : Bool) → (a && b) ≡ true → a ≡ true
-and_left true b both = refl
-and_left false b both = both
-
-and_right : (a b : Bool) → (a && b) ≡ true → b ≡ true
-and_right true b both = both
-and_right false b both = absurd (false≢true both)
-
 is_size_from : (n : ℕ) → IsSize n → is_size n ≡ true
 is_size_from n s =
     let least : 216 ≤ n = s.least in
     let most : n ≤ 8192 = s.most in
     let words : n % 4 ≡ 0 = s.words in
-    and_true (nat_le 216 n && nat_le n 8192) (n % 4 == 0)
-    (and_true (nat_le 216 n) (nat_le n 8192) (grind (arith, nat_tests)) (grind (arith, nat_tests)))
+    and_from (nat_le 216 n && nat_le n 8192) (n % 4 == 0)
+    (and_from (nat_le 216 n) (nat_le n 8192) (grind (arith, nat_tests)) (grind (arith, nat_tests)))
     (grind (arith, nat_tests))
 
 size_from_is : (n : ℕ) → is_size n ≡ true → IsSize n
 size_from_is n is =
-    let bounds : (nat_le 216 n && nat_le n 8192) ≡ true = and_left (nat_le 216 n && nat_le n 8192) (n % 4 == 0) is in
-    let least : nat_le 216 n ≡ true = and_left (nat_le 216 n) (nat_le n 8192) bounds in
-    let most : nat_le n 8192 ≡ true = and_right (nat_le 216 n) (nat_le n 8192) bounds in
-    let words : (n % 4 == 0) ≡ true = and_right (nat_le 216 n && nat_le n 8192) (n % 4 == 0) is in
+    let bounds : (nat_le 216 n && nat_le n 8192) ≡ true = (and_parts (nat_le 216 n && nat_le n 8192) (n % 4 == 0) is).0 in
+    let least : nat_le 216 n ≡ true = (and_parts (nat_le 216 n) (nat_le n 8192) bounds).0 in
+    let most : nat_le n 8192 ≡ true = (and_parts (nat_le 216 n) (nat_le n 8192) bounds).1 in
+    let words : (n % 4 == 0) ≡ true = (and_parts (nat_le 216 n && nat_le n 8192) (n % 4 == 0) is).1 in
     record { least = grind (arith, nat_tests); most = grind (arith, nat_tests); words = grind (arith, nat_tests) }
 
 pub sized_is : (bytes : List ℕ) → IsSized bytes → is_sized bytes ≡ true
 sized_is bytes s =
-    and_true (bytes_eq (take 24 bytes) the_signature) (is_size (size_in bytes)) ((bytes_eq-Decides (take 24 bytes) the_signature).1 s.signed.signed) (is_size_from (size_in bytes) s.sized)
+    and_from (bytes_eq (take 24 bytes) the_signature) (is_size (size_in bytes)) ((bytes_eq-Decides (take 24 bytes) the_signature).1 s.signed.signed) (is_size_from (size_in bytes) s.sized)
 
 pub sized_from : (bytes : List ℕ) → 216 ≤ length bytes → is_sized bytes ≡ true → IsSized bytes
 sized_from bytes long is = record {
   signed = record {
     long = long;
-    signed = (bytes_eq-Decides (take 24 bytes) the_signature).0 (and_left (bytes_eq (take 24 bytes) the_signature) (is_size (size_in bytes)) is);
+    signed = (bytes_eq-Decides (take 24 bytes) the_signature).0 (and_parts (bytes_eq (take 24 bytes) the_signature) (is_size (size_in bytes)) is).0;
   };
-  sized = size_from_is (size_in bytes) (and_right (bytes_eq (take 24 bytes) the_signature) (is_size (size_in bytes)) is);
+  sized = size_from_is (size_in bytes) (and_parts (bytes_eq (take 24 bytes) the_signature) (is_size (size_in bytes)) is).1;
 }
 
 pub extended_sized : (bytes : List ℕ) → IsSized bytes → extended_by bytes ≡ extended_count (size_in bytes)
@@ -63,7 +53,7 @@ extended_sized bytes s = ap (λ (b : Bool). cond b (extended_count (size_in byte
 by_size : (bytes : List ℕ) (P : ℕ → Type 0) → (is_sized bytes ≡ true → IsSize (size_in bytes) → P (extended_count (size_in bytes))) → P 0 → P (extended_by bytes)
 by_size bytes P sized none = at (is_sized bytes) refl where
   at : (b : Bool) → is_sized bytes ≡ b → P (cond b (extended_count (size_in bytes)) 0)
-  at true is = sized is (size_from_is (size_in bytes) (and_right (bytes_eq (take 24 bytes) the_signature) (is_size (size_in bytes)) is))
+  at true is = sized is (size_from_is (size_in bytes) (and_parts (bytes_eq (take 24 bytes) the_signature) (is_size (size_in bytes)) is).1)
   at false is = none
 
 pub extended_few : (bytes : List ℕ) → extended_by bytes ≤ 15

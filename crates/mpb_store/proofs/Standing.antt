@@ -2,10 +2,11 @@
 use Rattle.std.proofs.Common.{◌≡◌, ℕ, zero, suc, ◌+◌, ◌-◌, ◌*◌, ◌<◌, ◌≤◌, List, ◌++◌, length, map, take, replicate, refl, sym, ◌∙◌, ap, subst, arith}
 use Rattle.std.specs.List.{range_with_len}
 use Rattle.std.proofs.lemmas.List.{take_at, take-take, take-append-le}
-use Rattle.imsm_base.specs.declared.units.Sector.{Sector}
+use Rattle.units.specs.declared.disk.Sector.{Sector}
 use Rattle.imsm_base.specs.Edits.{first_sector}
 use Rattle.imsm_base.specs.Parts.{block_in}
-use Rattle.imsm_base.specs.Whole.{the_signature, anchor_place, extended_count, sectors_from, IsSize, IsWholeBlock, IsWholeDisk}
+use Rattle.imsm_base.specs.Whole.{sectors_from, IsWholeBlock, IsWholeDisk}
+use Rattle.units.specs.Places.{anchor_place, extended_count}
 use Rattle.imsm_base.proofs.Spliced.{number_at-take, number_at-front}
 use Rattle.imsm_codec.specs.Given.{size_in, given_block, IsSized}
 use Rattle.mpb_store.specs.declared.answer.Found.TheVariants.{Whole}
@@ -18,14 +19,11 @@ use Rattle.mpb_store.proofs.Followed.{extended_same}
 use Rattle.mpb_store.proofs.Judged.{found_is_one}
 use Rattle.mpb_store.proofs.Placing.{extended_sized}
 use Rattle.mpb_store.proofs.Told.{from_places, places_by}
-
-header_of : (bytes : List ℕ) → IsWholeBlock bytes (block_in bytes) → (take 24 bytes ≡ the_signature) × IsSize (size_in bytes) × (size_in bytes ≡ length bytes)
-unfolding block_in
-header_of bytes w = (w.signed, w.sized, w.given)
+use Rattle.imsm_codec.proofs.Wholeness.{header_of-whole}
 
 sized_of : (bytes : List ℕ) → IsWholeBlock bytes (block_in bytes) → IsSized bytes
 sized_of bytes w =
-    let header = header_of bytes w in
+    let header = header_of-whole bytes w in
     let least : 216 ≤ size_in bytes = header.1.least in
     let given : size_in bytes ≡ length bytes = header.2 in
     record { signed = record { long = omega arith; signed = header.0 }; sized = header.1 }
@@ -87,7 +85,7 @@ answer_standing own n at bytes w anchor each = record {
     sized = sized_of bytes w.whole
 
     given : size_in bytes ≡ length bytes
-    given = (header_of bytes w.whole).2
+    given = (header_of-whole bytes w.whole).2
 
     long : 216 ≤ length bytes
     long = sized.signed.long

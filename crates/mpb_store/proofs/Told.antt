@@ -4,15 +4,15 @@ use Rattle.std.specs.Prelude.{◌↔◌, IfSome, slice_get}
 use Rattle.std.specs.List.{range_with_len}
 use Rattle.std.proofs.lemmas.List.{length-drop, take_all, take-take}
 use Rattle.std.proofs.lemmas.Bool.{false≢true}
-use Rattle.imsm_base.specs.declared.units.Sector.{Sector}
-use Rattle.imsm_base.specs.declared.units.Serial.{Serial}
+use Rattle.units.specs.declared.disk.Sector.{Sector}
+use Rattle.units.specs.declared.disk.Serial.{Serial}
 use Rattle.imsm_base.specs.Parts.{block_in}
-use Rattle.imsm_base.specs.Whole.{anchor_place, extended_count, sectors_from, standing, IsWholeDisk}
+use Rattle.imsm_base.specs.Whole.{sectors_from, standing, IsWholeDisk}
+use Rattle.units.specs.Places.{anchor_place, extended_count}
 use Rattle.imsm_base.proofs.Spliced.{number_at-take}
 use Rattle.imsm_codec.specs.Given.{size_in, given_block}
 use Rattle.imsm_codec.proofs.Wholeness.{checks_from_whole}
 use Rattle.device_log.specs.Log.{Call}
-use Rattle.member_bank.specs.Faults.{Rose}
 use Rattle.mpb_store.specs.declared.answer.Found.{Found}
 use Rattle.mpb_store.specs.declared.answer.Found.TheVariants.{Whole, Blank, Torn, Unread}
 use Rattle.mpb_store.specs.declared.reading.ReadStep.TheVariants.{Read, Over}
@@ -132,9 +132,6 @@ unread_is own r f exact = at r.failed refl where
   at : (b : Bool) → r.failed ≡ b → b ≡ is_unread f
   at true failed = sym (ap is_unread ((exact Unread).1 failed))
   at false well = sym (read_then f (λ unread. false≢true (sym well ∙ (exact Unread).0 unread)))
-
-pub rose_later : (before mid now : ℕ) → before ≤ mid → Rose mid now → Rose before now
-rose_later before mid now later rose = omega arith
 
 pub if_told : {A : Type 0} (o : Option A) (P : A → Type 0) → ((x : A) → o ≡ Some x → P x) → IfSome o P
 if_told None P told = tt

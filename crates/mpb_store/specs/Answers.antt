@@ -2,12 +2,13 @@
 -- Source: load_and_parse_mpb and load_imsm_disk of super-intel.c; the order of the answers is this project's own.
 use Rattle.std.specs.Prelude.{◌≡◌, ◌≢◌, ℕ, ◌<◌, ◌≤◌, ◌⊎◌, true, false, List, take, Option, None, ⊤}
 use Rattle.std.specs.Option.{IsSomeAnd}
-use Rattle.imsm_base.specs.declared.bounds.TheConstants.{METADATA_SECTORS}
-use Rattle.imsm_base.specs.declared.units.Sector.{Sector}
+use Rattle.units.specs.declared.bounds.TheConstants.{METADATA_SECTORS}
+use Rattle.units.specs.declared.disk.Sector.{Sector}
 use Rattle.imsm_base.specs.Fields.{Part}
 use Rattle.imsm_base.specs.Layout.{total_blocks_of}
 use Rattle.imsm_base.specs.Parts.{block_in}
-use Rattle.imsm_base.specs.Whole.{the_signature, anchor_place, own_record, IsWhole, IsWholeDisk}
+use Rattle.imsm_base.specs.Whole.{the_signature, own_record, IsWhole, IsWholeDisk}
+use Rattle.units.specs.Places.{anchor_place}
 use Rattle.imsm_codec.specs.Given.{given_block}
 use Rattle.imsm_codec.specs.Faults.{HasFault}
 use Rattle.imsm_codec.specs.declared.fault.MpbFault.{MpbFault}

@@ -1,11 +1,12 @@
--- How a metadata block is read off a disk: its anchor, and then, where the anchor tells how many there are, the extended
--- sectors in order. Source: load_imsm_mpb of super-intel.c; the bounds on sizes are this project's own.
+-- How a metadata block is read off a disk: its anchor, and then, where the anchor tells how many there are, the
+-- extended sectors in order. Source: load_imsm_mpb of super-intel.c; the bounds on sizes are this project's own.
 use Rattle.std.specs.Prelude.{◌≡◌, ℕ, ◌-◌, ◌/◌, ◌%◌, ◌<◌, ◌==◌, ◌&&◌, ◌||◌, nat_le, nat_lt, Bool, if◌then◌else◌, List, [], ◌∷◌, take, drop, length, Option, Some, None}
 use Rattle.std.specs.List.{range_with_len, flat_map}
 use Rattle.std.specs.Str.{bytes_eq}
-use Rattle.imsm_base.specs.declared.bounds.TheConstants.{HEADER_BYTES, MAX_BLOCK_BYTES, METADATA_SECTORS, SECTOR_BYTES}
-use Rattle.imsm_base.specs.declared.units.Sector.{Sector}
-use Rattle.imsm_base.specs.Whole.{the_signature, anchor_place, extended_count}
+use Rattle.units.specs.declared.bounds.TheConstants.{HEADER_BYTES, MAX_BLOCK_BYTES, METADATA_SECTORS, SECTOR_BYTES}
+use Rattle.units.specs.declared.disk.Sector.{Sector}
+use Rattle.imsm_base.specs.Whole.{the_signature}
+use Rattle.units.specs.Places.{anchor_place, extended_count}
 use Rattle.imsm_codec.specs.Given.{size_in, IsSized}
 use Rattle.imsm_codec.specs.declared.fault.MpbFault.{MpbFault}
 use Rattle.imsm_codec.specs.declared.fault.MpbFault.TheVariants.{Cut}

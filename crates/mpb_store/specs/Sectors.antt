@@ -2,8 +2,8 @@
 -- Source: store_imsm_mpb of super-intel.c.
 use Rattle.std.specs.Prelude.{ℕ, ◌-◌, ◌*◌, List, ◌++◌, length, map, drop, replicate}
 use Rattle.std.specs.List.{flat_map, range_with_len}
-use Rattle.imsm_base.specs.declared.bounds.TheConstants.{MAX_BLOCK_BYTES, MAX_WRITE_SECTORS, SECTOR_BYTES}
-use Rattle.imsm_base.specs.declared.units.Sector.{Sector}
+use Rattle.units.specs.declared.bounds.TheConstants.{MAX_BLOCK_BYTES, MAX_WRITE_SECTORS, SECTOR_BYTES}
+use Rattle.units.specs.declared.disk.Sector.{Sector}
 use Rattle.imsm_base.specs.Edits.{first_sector}
 
 -- the bytes of sectors, one behind the other

@@ -1,7 +1,7 @@
 -- How a metadata block is written to a disk: its extended part in one write, then its anchor, then a sync.
 -- Source: store_imsm_mpb of super-intel.c; the sync is this project's own.
 use Rattle.std.specs.Prelude.{ℕ, ◌-◌, ◌==◌, if◌then◌else◌, List, [], ◌∷◌, ◌++◌}
-use Rattle.imsm_base.specs.Whole.{anchor_place, extended_count}
+use Rattle.units.specs.Places.{anchor_place, extended_count}
 use Rattle.mpb_store.specs.declared.writing.Step.{Step}
 use Rattle.mpb_store.specs.declared.writing.Step.TheVariants.{Extended, Anchor, Sync, Over}
 

@@ -1,7 +1,7 @@
 //! The metadata block on a disk of a bank.
 ghost use Rattle.std.specs.Prelude.{◌≡◌, ◌<◌, ◌≤◌, ℕ, true, List, Option, Some, IfSome, length, slice_get, slice_index};
-ghost use Rattle.imsm_base.specs.declared.bounds.TheConstants.{MAX_BLOCK_BYTES, METADATA_SECTORS};
-ghost use Rattle.imsm_base.specs.declared.units.Serial.{Serial as SerialBytes};
+ghost use Rattle.units.specs.declared.bounds.TheConstants.{MAX_BLOCK_BYTES, METADATA_SECTORS};
+ghost use Rattle.units.specs.declared.disk.Serial.{Serial as SerialBytes};
 ghost use Rattle.imsm_base.specs.Whole.{IsWholeDisk};
 ghost use Rattle.imsm_buffer.specs.Buffer.{parts_of};
 ghost use Rattle.device_log.specs.Log.{Call};
@@ -14,15 +14,16 @@ ghost use Rattle.mpb_store.specs.Banks.{IsReadFrom, LogsReads, LogsReading, Logs
 
 use crate::answer::Found;
 use crate::reading::{ReadStep, ReadSteps};
-use imsm_base::{DiskNo, Sector};
 use imsm_buffer::MpbBuf;
 use member_bank::Bank;
+use units::{DiskNo, Sector};
 
 /// Reads the place that is next.
 fn read_next<B: Bank>(bank: &mut B, d: DiskNo, place: u64, steps: &mut ReadSteps)
     requires disk { d.0 < length (B.sizes bank.old) }
     requires next { ReadStep.Read place ≡ first_read (places_left steps.old) }
-    requires from { IsReadFrom (slice_index (B.sizes bank.old) d.0) d.0 (B.opening bank.old) (B.log bank.old) steps.old }
+    requires from { IsReadFrom (slice_index (B.sizes bank.old) d.0) d.0 (B.opening bank.old)
+        (B.log bank.old) steps.old }
     ensures from { IsReadFrom (slice_index (B.sizes bank.old) d.0) d.0 (B.opening bank.new) (B.log bank.new) steps.new }
     ensures less { bytes_left steps.new < bytes_left steps.old }
     ensures reads { LogsReads (B.log bank.old) (B.log bank.new) d.0 steps.new.failed }
@@ -41,8 +42,8 @@ fn read_next<B: Bank>(bank: &mut B, d: DiskNo, place: u64, steps: &mut ReadSteps
     }
 }
 
-/// What is found on a disk, whose anchor is read first and then the extended sectors in order. Takes no memory. Where the
-/// answer is Whole the block is put into `into`, and else what stands there isn't said.
+/// What is found on a disk, whose anchor is read first and then the extended sectors in order. Takes no memory. Where
+/// the answer is Whole the block is put into `into`, and else what stands there isn't said.
 pub fn found<B: Bank>(bank: &mut B, d: DiskNo, into: &mut MpbBuf) -> Found
     requires disk { d.0 < length (B.sizes bank.old) }
     requires room { MAX_BLOCK_BYTES ≤ into.old.room }
@@ -60,7 +61,8 @@ pub fn found<B: Bank>(bank: &mut B, d: DiskNo, into: &mut MpbBuf) -> Found
     // Nothing but reads of this disk is done, and the answer is Unread exactly where one of them failed.
     ensures reads { LogsReads (B.log bank.old) (B.log bank.new) d.0 (is_unread result) }
     // They are of the anchor, and then of the extended sectors that it speaks of in order, up to the first that fails.
-    ensures places { LogsLook (slice_index (B.sizes bank.old) d.0) d.0 (B.opening bank.new) (B.log bank.old) (B.log bank.new)
+    ensures places { LogsLook (slice_index (B.sizes bank.old) d.0) d.0 (B.opening bank.new)
+        (B.log bank.old) (B.log bank.new)
         (is_unread result) }
     ensures opening { Keeps (B.opening bank.old) (B.opening bank.new) }
     ensures sizes { B.sizes bank.new ≡ B.sizes bank.old }

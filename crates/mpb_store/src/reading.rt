@@ -9,10 +9,10 @@ use crate::answer::Found;
 use crate::judge::{found_by, judge};
 use crate::writing::extended_count;
 use arrayvec::ArrayVec;
-use imsm_base::{MAX_BLOCK_BYTES, METADATA_SECTORS, SECTOR_BYTES, Sector, Serial};
 use imsm_buffer::MpbBuf;
 use imsm_codec::{MpbFault, check};
 use std::marker::Model;
+use units::{MAX_BLOCK_BYTES, METADATA_SECTORS, SECTOR_BYTES, Sector, Serial};
 
 /// What is done next: a read of a place, or nothing.
 #[derive(Clone, Copy, Debug, PartialEq, Eq)]
@@ -53,7 +53,7 @@ pub struct ReadSteps {
 
 impl Model for ReadSteps {
     ghost use Rattle.std.specs.Prelude.{◌≡◌, ◌<◌, ◌%◌, [], length};
-    ghost use Rattle.imsm_base.specs.declared.bounds.TheConstants.{METADATA_SECTORS, SECTOR_BYTES};
+    ghost use Rattle.units.specs.declared.bounds.TheConstants.{METADATA_SECTORS, SECTOR_BYTES};
     ghost use Rattle.mpb_store.specs.Reading.{Reading, IsReading};
 
     ghost Value = { Reading };
@@ -101,7 +101,8 @@ impl ReadSteps {
     pub fn fed(&mut self, got: Option<&Sector>)
         requires { places_left self.old ≢ [] }
         ensures sector { IfSome got.entry (λ s. length s.now.0 ≡ SECTOR_BYTES) }
-        ensures fed { MatchOption got.entry (self.new ≡ record self.old { failed = true }) (λ s. self.new ≡ record self.old { bytes = self.old.bytes ++ s.now.0 }) }
+        ensures fed { MatchOption got.entry (self.new ≡ record self.old { failed = true })
+            (λ s. self.new ≡ record self.old { bytes = self.old.bytes ++ s.now.0 }) }
     {
         match got {
             Some(sector) => self.bytes.try_extend_from_slice(&sector.0).unwrap(),
@@ -109,8 +110,8 @@ impl ReadSteps {
         }
     }
 
-    /// What is found on the disk, which has this serial: by what was fed, where no read failed. Where the answer is Whole
-    /// the block is put into `into`, and else what stands there isn't said.
+    /// What is found on the disk, which has this serial: by what was fed, where no read failed. Where the answer is
+    /// Whole the block is put into `into`, and else what stands there isn't said.
     pub fn end(&self, own: Serial, into: &mut MpbBuf) -> Found
         requires over { places_left self.now ≡ [] }
         requires room { MAX_BLOCK_BYTES ≤ into.old.room }

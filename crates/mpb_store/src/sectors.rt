@@ -3,8 +3,8 @@ ghost use Rattle.std.specs.Prelude.{◌≡◌, drop};
 ghost use Rattle.imsm_base.specs.Edits.{first_sector};
 ghost use Rattle.mpb_store.specs.Sectors.{block_sectors, bytes_in, filled};
 
-use imsm_base::{MAX_WRITE_SECTORS, SECTOR_BYTES, Sector};
 use imsm_buffer::MpbBuf;
+use units::{MAX_WRITE_SECTORS, SECTOR_BYTES, Sector};
 
 /// The sector that begins at a place of the bytes, with zeros behind their end.
 fn sector_from(bytes: &[u8], place: usize) -> Sector

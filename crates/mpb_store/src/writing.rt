@@ -1,11 +1,11 @@
 //! How a metadata block is written to a disk.
 ghost use Rattle.std.specs.Prelude.{◌≡◌, ◌≤◌, ◌↔◌, [], drop};
-ghost use Rattle.imsm_base.specs.declared.bounds.TheConstants.{HEADER_BYTES as HEADER, MAX_BLOCK_BYTES as MOST, METADATA_SECTORS as METADATA};
-ghost use Rattle.imsm_base.specs.Whole.{extended_count};
+ghost use Rattle.units.specs.declared.bounds.TheConstants.{HEADER_BYTES as HEADER, MAX_BLOCK_BYTES as MOST, METADATA_SECTORS as METADATA};
+ghost use Rattle.units.specs.Places.{extended_count};
 ghost use Rattle.mpb_store.specs.Writing.{steps_of, first_step};
 
-use imsm_base::SECTOR_BYTES;
 use std::marker::Model;
+use units::SECTOR_BYTES;
 
 /// What is done next: a write of so many extended sectors from a place on, a write of the anchor, a sync, or nothing.
 #[derive(Clone, Copy, Debug, PartialEq, Eq)]

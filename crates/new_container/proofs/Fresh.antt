@@ -4,18 +4,19 @@ use Rattle.std.specs.Prelude.{find, nat_le, is_none, slice_get, slice_index}
 use Rattle.std.specs.Option.{option_map, option_map_or}
 use Rattle.std.specs.List.{range_with_len, list_all, list_any, AllByRecursion}
 use Rattle.std.specs.Int.{bit_at}
-use Rattle.std.proofs.lemmas.Bool.{and_parts, eqb-true, leb-true, le-leb, lt-ltb, ne_eqb}
+use Rattle.std.proofs.lemmas.Bool.{and_parts, eqb-true, leb-true, le-leb, lt-ltb, ne_eqb, or_right}
 use Rattle.std.proofs.Math.Nat.{mul-le-mul_right}
 use Rattle.std.proofs.lemmas.List.{get_or-map}
 use Rattle.std.proofs.lemmas.List.FromFn.{length-map-range_with_len, get_or-map-range_with_len}
 use Rattle.byteorder.specs.Endian.{little_bytes}
 use Rattle.byteorder.specs.Numbers.{little_number-reads_back}
-use Rattle.imsm_base.specs.declared.units.Level.{Level}
-use Rattle.imsm_base.specs.declared.units.Level.TheVariants.{One, Five, Ten}
-use Rattle.imsm_base.specs.declared.bounds.TheConstants.{METADATA_SECTORS}
+use Rattle.units.specs.declared.volume.Level.{Level}
+use Rattle.units.specs.declared.volume.Level.TheVariants.{One, Five, Ten}
+use Rattle.units.specs.declared.bounds.TheConstants.{METADATA_SECTORS}
 use Rattle.imsm_base.specs.Fields.{Part, number}
 use Rattle.imsm_base.specs.Layout.{Block, Volume, disk_count_of, total_blocks_of, volume_size_of, pba_of, blocks_per_member_of, strip_of, member_count_of, level_byte_of, policy_of, migration_type_of}
-use Rattle.imsm_base.specs.Volumes.{Fault, Member, first_map, member, members, order_at, is_in_sync, is_expected_at, volume_level, level_of, rows_of, volume_rows, has_policy, has_migration, rounded_up, is_bad_slot, bad_slot, has_sectors, is_level_one, has_geometry, overlaps, geometry_fault, volume_fault}
+use Rattle.imsm_base.specs.Volumes.{Fault, Member, first_map, member, members, order_at, is_in_sync, is_expected_at, volume_level, level_of, volume_rows, has_policy, has_migration, is_bad_slot, bad_slot, has_sectors, is_level_one, has_geometry, overlaps, geometry_fault, volume_fault}
+use Rattle.units.specs.Levels.{rows_of, rounded_up}
 use Rattle.imsm_base.specs.Volumes.Fault.{BadLevel, BadPolicy, BadMigration, BadGeometry, Overlaps}
 use Rattle.imsm_base.specs.Whole.{is_expected}
 use Rattle.imsm_base.proofs.Sealed.{number-four}
@@ -204,10 +205,6 @@ six_true true true true false e f p q r s t u = s
 six_true true true true true false f p q r s t u = t
 six_true true true true true true false p q r s t u = u
 
-or_true : (a b : Bool) → b ≡ true → (a || b) ≡ true
-or_true true b e = refl
-or_true false b e = e
-
 -- the rows are few, since a stripe is short
 striped_small : (d s n : ℕ) → 1 ≤ d → d ≤ 7 → 1 ≤ s → s < 2 ^ 16 → n ≤ 2 ^ 40 → s * rounded_up n (d * s) < 2 ^ 41
 striped_small d s n some few pos short most =
@@ -247,7 +244,7 @@ has_geometry_is b disks k pba v is few below fits all =
     six_true _ _ _ _ _ _
     (le-leb 1 (volume_size_of made) (omega arith))
     (le-leb (volume_size_of made) (2 ^ 40) (omega arith))
-    (or_true (is_level_one made) _ (ap not (ne_eqb (strip_of (first_map made)) 0 (λ e. omega arith))))
+    (or_right (is_level_one made) _ (ap not (ne_eqb (strip_of (first_map made)) 0 (λ e. omega arith))))
     (le-leb (volume_rows made) (blocks_per_member_of (first_map made)) (omega arith))
     (ap (λ (n : ℕ). list_all (has_sectors b n) (members made)) needed ∙ have_sectors b disks k pba v (pba + rows_over v (length disks) + METADATA_SECTORS) is few all)
     (alike_one made refl)

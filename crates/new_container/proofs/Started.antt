@@ -4,10 +4,10 @@ use Rattle.std.specs.Prelude.{All, unwrap_or, find, nat_lt, slice_get}
 use Rattle.std.specs.Option.{IsSomeAnd, option_map_or}
 use Rattle.std.specs.List.{range_with_len, AllByRecursion}
 use Rattle.std.specs.Str.{bytes_eq}
-use Rattle.std.proofs.lemmas.Bool.{and_parts, le-ltb}
+use Rattle.std.proofs.lemmas.Bool.{and_parts, le-ltb, and_right}
 use Rattle.std.proofs.lemmas.List.Elements.{recursion_from_All}
 use Rattle.std.proofs.lemmas.Slice.Eq.{bytes_eq-Decides}
-use Rattle.imsm_base.specs.declared.bounds.TheConstants.{METADATA_SECTORS}
+use Rattle.units.specs.declared.bounds.TheConstants.{METADATA_SECTORS}
 use Rattle.byteorder.specs.Endian.{little_bytes}
 use Rattle.imsm_base.proofs.Sealed.{number-four}
 use Rattle.imsm_base.specs.Fields.{Part, number}
@@ -25,10 +25,6 @@ use Rattle.new_container.proofs.Fresh.{all_in_sync, asked_is, halves, rooms, row
 
 -- THE VOLUMES LIE APART
 
-and_false : (a b : Bool) → b ≡ false → (a && b) ≡ false
-and_false true b e = e
-and_false false b e = refl
-
 -- a sector behind the rows of the first volume isn't in its range
 behind_first : (count start : ℕ) (first : NewVolume) → rows_over first count < 2 ^ 41 → rows_over first count ≤ start →
     nat_lt start (pba_of (first_map (created_volume 0 0 first count)) + blocks_per_member_of (first_map (created_volume 0 0 first count))) ≡ false
@@ -45,14 +41,14 @@ over_first count first second small =
     let m1 : Map = first_map (created_volume 1 (rows_over first count) second count) in
     let start : ℕ = max (pba_of m0) (pba_of m1) in
     let place : pba_of m1 ≡ rows_over first count = halves (rows_over first count) (omega arith) in
-    and_false _ _ (ap (λ (t : Bool). t && nat_lt start (pba_of m1 + blocks_per_member_of m1)) (behind_first count start first small (omega arith)))
+    and_right _ _ (ap (λ (t : Bool). t && nat_lt start (pba_of m1 + blocks_per_member_of m1)) (behind_first count start first small (omega arith)))
 
 over_second : (count : ℕ) (first second : NewVolume) → rows_over first count < 2 ^ 41 → is_over (created_volume 1 (rows_over first count) second count) (created_volume 0 0 first count) ≡ false
 over_second count first second small =
     let m0 : Map = first_map (created_volume 0 0 first count) in
     let m1 : Map = first_map (created_volume 1 (rows_over first count) second count) in
     let place : pba_of m1 ≡ rows_over first count = halves (rows_over first count) (omega arith) in
-    and_false _ _ (and_false _ _ (behind_first count (max (pba_of m1) (pba_of m0)) first small (omega arith)))
+    and_right _ _ (and_right _ _ (behind_first count (max (pba_of m1) (pba_of m0)) first small (omega arith)))
 
 abbrev over_at : List Volume → ℕ → Volume → ℕ → Bool
 over_at volumes k v other = not (other == k) && option_map_or (is_over v) (slice_get volumes other) false

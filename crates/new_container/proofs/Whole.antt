@@ -10,8 +10,8 @@ use Rattle.imsm_buffer.proofs.Kept.{written}
 use Rattle.std.proofs.lemmas.Bool.{and_parts, eqb-true, leb-true}
 use Rattle.std.proofs.lemmas.List.{length-map, take_all}
 use Rattle.byteorder.specs.Endian.{little_bytes}
-use Rattle.imsm_base.specs.declared.units.Level.{Level}
-use Rattle.imsm_base.specs.declared.units.Level.TheVariants.{One, Five, Ten}
+use Rattle.units.specs.declared.volume.Level.{Level}
+use Rattle.units.specs.declared.volume.Level.TheVariants.{One, Five, Ten}
 use Rattle.imsm_base.specs.Fields.{number, with_number_at}
 use Rattle.imsm_base.specs.Layout.{Block, HasLengths, IsVolume, IsBlock, Spells, disk_lengths, serial_of, bytes_of}
 use Rattle.imsm_base.specs.Parts.{block_in, volumes_room}

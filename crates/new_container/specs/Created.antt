@@ -4,9 +4,9 @@
 use Rattle.std.specs.Prelude.{◌≡◌, ℕ, ◌+◌, ◌*◌, ◌/◌, ◌%◌, ◌^◌, ◌<◌, ◌≤◌, true, List, [], ◌∷◌, ◌++◌, length, map, codes, replicate, All, Option, Some, None, unwrap_or}
 use Rattle.std.specs.List.{range_with_len}
 use Rattle.byteorder.specs.Endian.{little_bytes}
-use Rattle.imsm_base.specs.declared.units.Level.{Level}
-use Rattle.imsm_base.specs.declared.units.Level.TheVariants.{One, Five, Ten}
-use Rattle.imsm_base.specs.declared.bounds.TheConstants.{METADATA_SECTORS}
+use Rattle.units.specs.declared.volume.Level.{Level}
+use Rattle.units.specs.declared.volume.Level.TheVariants.{One, Five, Ten}
+use Rattle.units.specs.declared.bounds.TheConstants.{METADATA_SECTORS}
 use Rattle.imsm_base.specs.Fields.{Part}
 use Rattle.imsm_base.specs.Layout.{Block, Volume, state_lengths, bytes_of}
 use Rattle.imsm_base.specs.Whole.{the_signature, block_sum, AreApart}
@@ -44,7 +44,8 @@ disk_part disk =
 -- a volume's record: its name, `Volume0` or `Volume1`, and its size
 abbrev pub device_part : (number size : ℕ) → Part
 device_part number size =
-    (codes "Volume" ++ (0x30 + number) ∷ replicate 9 0) ∷ low_half size ∷ high_half size ∷ replicate 4 0 ∷ replicate 22 0
+    (codes "Volume" ++ (0x30 + number) ∷ replicate 9 0) ∷ low_half size ∷ high_half size
+    ∷ replicate 4 0 ∷ replicate 22 0
     ∷ replicate 1 0 ∷ replicate 29 0 ∷ []
 
 -- the byte of a level, and in how many sets of one copy each its disks are (num_domains)

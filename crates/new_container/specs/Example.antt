@@ -1,7 +1,7 @@
--- The container whose block `Vector` of imsm_base writes out: two disks of 4,096 sectors, A and B, and one volume of two
--- copies. Source: this project's own.
+-- The container whose block `Vector` of imsm_base writes out: two disks of 4,096 sectors, A and B, and one volume of
+-- two copies. Source: this project's own.
 use Rattle.std.specs.Prelude.{ℕ, List, [], ◌∷◌, replicate, None}
-use Rattle.imsm_base.specs.declared.units.Level.TheVariants.{One}
+use Rattle.units.specs.declared.volume.Level.TheVariants.{One}
 use Rattle.new_container.specs.declared.container.NewContainer.{NewContainer}
 use Rattle.new_container.specs.declared.disk.NewDisk.{NewDisk}
 

@@ -1,5 +1,5 @@
--- What a created block says of its volumes: they are as they were asked for, and start as they are. Source: `Volumes` of
--- imsm_base.
+-- What a created block says of its volumes: they are as they were asked for, and start as they are. Source: `Volumes`
+-- of imsm_base.
 use Rattle.std.specs.Prelude.{◌≡◌, ℕ, true, false, length, slice_get, Some, None}
 use Rattle.std.specs.List.{list_all}
 use Rattle.imsm_base.specs.Layout.{Block, Volume, volume_size_of, map_state_of, member_count_of, pba_of, strip_of}
@@ -31,4 +31,5 @@ pub record HasVolumes (b : Block) (made : NewContainer) (count : ℕ) : Type 0 w
   pub number : length b.volumes ≡ volume_count made
   pub first : (v : Volume) × (slice_get b.volumes 0 ≡ Some v) × IsAsked made.first count 0 v × IsFresh b 0 v
   pub second : (asked : NewVolume) → made.second ≡ Some asked →
-      (v : Volume) × (slice_get b.volumes 1 ≡ Some v) × IsAsked asked count (rows_over made.first count) v × IsFresh b 1 v
+      (v : Volume) × (slice_get b.volumes 1 ≡ Some v) × IsAsked asked count (rows_over made.first count) v
+      × IsFresh b 1 v

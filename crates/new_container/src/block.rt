@@ -1,6 +1,6 @@
 //! The metadata block of a new container.
 ghost use Rattle.std.specs.Prelude.{◌≡◌, ◌+◌, ◌*◌, ◌≤◌, ◌<◌, ◌^◌, true, length, All, IfOk, Option};
-ghost use Rattle.imsm_base.specs.declared.bounds.TheConstants.{HEADER_BYTES};
+ghost use Rattle.units.specs.declared.bounds.TheConstants.{HEADER_BYTES};
 ghost use Rattle.imsm_base.specs.Layout.{bytes_of};
 ghost use Rattle.imsm_base.specs.Whole.{IsWholeBlock};
 ghost use Rattle.new_container.specs.Fits.{container_fits};

@@ -1,5 +1,5 @@
 //! A disk that a container is made over.
-use imsm_base::Serial;
+use units::Serial;
 
 /// A disk that a container is made over: its serial, and how many sectors it has.
 #[derive(Clone, Copy, Debug, PartialEq, Eq)]

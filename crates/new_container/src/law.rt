@@ -15,10 +15,12 @@ pub fn created_blocks_are_whole()
         → IsWholeBlock (created_bytes made disks) (created_block made disks) }
     ensures generation { (made : NewContainer) (disks : List NewDisk) → generation_of (created_block made disks) ≡ 1 }
     // Where a number of the family is given, it stands in both its fields.
-    ensures family { (made : NewContainer) (disks : List NewDisk) (family : ℕ) → made.family ≡ Some family → family < 2 ^ 32
+    ensures family { (made : NewContainer) (disks : List NewDisk) (family : ℕ) → made.family ≡ Some family
+        → family < 2 ^ 32
         → (family_of (created_block made disks) ≡ family) × (orig_family_of (created_block made disks) ≡ family) }
     ensures disks { (made : NewContainer) (disks : List NewDisk) → CanCreate made disks → All IsDisk disks
-        → (i : ℕ) (d : NewDisk) → slice_get disks i ≡ Some d → IsWholeDisk d.serial.0 d.sectors (created_bytes made disks) (created_block made disks) }
+        → (i : ℕ) (d : NewDisk) → slice_get disks i ≡ Some d
+        → IsWholeDisk d.serial.0 d.sectors (created_bytes made disks) (created_block made disks) }
 {}
 
 /// The block has the volumes that were asked for, and each starts as it is: supported, clean, without a pass, and with

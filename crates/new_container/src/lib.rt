@@ -1,4 +1,9 @@
 //! The metadata block of a new container: what can be made over disks, the block's bytes, and that its volumes start.
+//!
+//! It owes the block of the definition, byte for byte; that it is whole, and each of its disks by it; and that its
+//! volumes are those that were asked for, supported, clean and in sync. Memory is its only fault.
+//!
+//! `image_words` asks it whether volumes fit so many images; `image_create` lays its block down.
 #![tactic(auto)]
 
 mod block;

@@ -1,7 +1,7 @@
 //! The parts of a new block, pushed behind one another.
 ghost use Rattle.std.specs.Prelude.{◌≡◌, ◌+◌, ◌*◌, ◌/◌, ◌^◌, ◌<◌, ◌≤◌, ◌++◌, true, length, map, All, Option, OnOk};
 ghost use Rattle.std.specs.List.{concat, flat_map};
-ghost use Rattle.imsm_base.specs.declared.units.Level.{Level};
+ghost use Rattle.units.specs.declared.volume.Level.{Level};
 ghost use Rattle.imsm_base.specs.Layout.{map_bytes, volume_bytes, state_lengths};
 ghost use Rattle.imsm_base.specs.EditsOfTables.{blank_part};
 ghost use Rattle.new_container.specs.declared.container.NewContainer.{NewContainer};
@@ -14,8 +14,8 @@ use crate::bytes::{push, push_high_half, push_low_half, push_u16, push_u32};
 use crate::container::NewContainer;
 use crate::disk::NewDisk;
 use crate::volume::NewVolume;
-use imsm_base::Level;
 use imsm_buffer::CodecFault;
+use units::Level;
 
 /// Pushes the header of a block of so many bytes, disks and volumes, without a checksum and a number of the family.
 pub(crate) fn push_header(
@@ -94,7 +94,8 @@ fn domain_count(level: Level) -> u8
 /// Pushes the low halves of a map's three numbers, and then its strip.
 fn push_low_halves(bytes: &mut Vec<u8>, pba: u64, rows: u64, strip: u16) -> Result<(), CodecFault>
     requires { 1 ≤ strip }
-    ensures { OnOk result (bytes.new.items ≡ bytes.old.items ++ (low_half pba ++ (low_half rows ++ (low_half (rows / strip) ++ little_bytes 2 strip)))) }
+    ensures { OnOk result (bytes.new.items ≡ bytes.old.items
+        ++ (low_half pba ++ (low_half rows ++ (low_half (rows / strip) ++ little_bytes 2 strip)))) }
 {
     push_low_half(bytes, pba)?;
     push_low_half(bytes, rows)?;
@@ -105,7 +106,8 @@ fn push_low_halves(bytes: &mut Vec<u8>, pba: u64, rows: u64, strip: u16) -> Resu
 /// Pushes the high halves of a map's three numbers.
 fn push_high_halves(bytes: &mut Vec<u8>, pba: u64, rows: u64, strip: u16) -> Result<(), CodecFault>
     requires { 1 ≤ strip }
-    ensures { OnOk result (bytes.new.items ≡ bytes.old.items ++ (high_half pba ++ (high_half rows ++ high_half (rows / strip)))) }
+    ensures { OnOk result (bytes.new.items ≡ bytes.old.items
+        ++ (high_half pba ++ (high_half rows ++ high_half (rows / strip)))) }
 {
     push_high_half(bytes, pba)?;
     push_high_half(bytes, rows)?;
@@ -151,7 +153,8 @@ fn push_volume(
 ) -> Result<(), CodecFault>
     requires number { number < 10 }
     requires fits { volume_fits volume.now disks ≡ true }
-    ensures { OnOk result (bytes.new.items ≡ bytes.old.items ++ volume_bytes (created_volume number pba volume.now disks)) }
+    ensures { OnOk result (bytes.new.items ≡ bytes.old.items
+        ++ volume_bytes (created_volume number pba volume.now disks)) }
 {
     push_device(bytes, number, volume.size)?;
     push(bytes, &[0; 32])?;
@@ -168,7 +171,8 @@ fn push_second(
     disks: u8,
 ) -> Result<(), CodecFault>
     requires { second_fits second disks ≡ true }
-    ensures { OnOk result (bytes.new.items ≡ bytes.old.items ++ flat_map volume_bytes (second_volume pba second disks)) }
+    ensures { OnOk result (bytes.new.items ≡ bytes.old.items
+        ++ flat_map volume_bytes (second_volume pba second disks)) }
 {
     match second {
         None => Ok(()),
@@ -183,7 +187,8 @@ pub(crate) fn push_volumes(
     disks: u8,
 ) -> Result<(), CodecFault>
     requires { container_fits made.now disks ≡ true }
-    ensures { OnOk result (bytes.new.items ≡ bytes.old.items ++ flat_map volume_bytes (created_volumes made.now disks)) }
+    ensures { OnOk result (bytes.new.items ≡ bytes.old.items
+        ++ flat_map volume_bytes (created_volumes made.now disks)) }
 {
     push_volume(bytes, 0, 0, &made.first, disks)?;
     let pba = made.first.rows(usize::from(disks));

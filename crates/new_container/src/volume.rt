@@ -1,10 +1,10 @@
 //! A volume that is made.
 ghost use Rattle.std.specs.Prelude.{◌≡◌, ◌==◌, ◌+◌, ◌^◌, ◌<◌, ◌≤◌, ◌*◌, ◌%◌, true};
-ghost use Rattle.imsm_base.specs.declared.units.Level.{Level};
+ghost use Rattle.units.specs.declared.volume.Level.{Level};
 ghost use Rattle.new_container.specs.Fits.{is_in_range, is_striped, rows_over, takes, volume_fits};
 
-use imsm_base::Level;
 use imsm_view::rows_of;
+use units::Level;
 
 /// The most sectors of a volume. The number is this project's own.
 const MAX_SIZE: u64 = 1 << 40;

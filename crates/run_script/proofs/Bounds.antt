@@ -1,7 +1,6 @@
 -- A script within the limits stays so with one more line that is right.
 use Rattle.std.proofs.Common.{◌≡◌, ◌≤◌, ◌+◌, ℕ, List, [], ◌∷◌, ◌++◌, Bool, true, false, length, arith, refl, Some, None, Option, Ok, Err, Result, length-append}
 use Rattle.std.specs.Prelude.{nat_lt, replicate, if◌then◌else◌}
-use Rattle.std.specs.List.{AllByRecursion}
 use Rattle.std.proofs.lemmas.Bool.Decides.{nat_tests}
 use Rattle.std.proofs.lemmas.List.{length-replicate}
 use Rattle.std.proofs.lemmas.List.Elements.{recursion_from_All, All-replicate}
@@ -19,10 +18,7 @@ use Rattle.run_script.specs.Grammar.{asked_by}
 use Rattle.run_script.specs.Scripts.{with_line, with_order, wrong_with}
 use Rattle.run_script.specs.Within.{IsOperation, IsTurn, IsWithin}
 use Rattle.run_script.proofs.Ends.{IsOrder, asked_order}
-
-all_more : {X : Type 0} (P : X → Type 0) (xs ys : List X) → AllByRecursion P xs → AllByRecursion P ys → AllByRecursion P (xs ++ ys)
-all_more P [] ys front back = back
-all_more P (x ∷ xs) ys front back = (front.0, all_more P xs ys front.1 back)
+use Rattle.array_model.proofs.Journals.{all-append}
 
 not_past : (past : Bool) (fault : ScriptFault) → (if past then Some fault else None) ≡ None → past ≡ false
 not_past true fault is = absurd (cc)
@@ -47,7 +43,7 @@ more_turns s t count is within named = record {
   few_ops = is.few_ops;
   few_turns = omega (arith, length-append s.turns (replicate count t), length-replicate count t, few_turns _ within);
   ops = is.ops;
-  turns = all_more IsTurn s.turns (replicate count t) is.turns (recursion_from_All IsTurn _ (All-replicate IsTurn count t named));
+  turns = all-append IsTurn s.turns (replicate count t) is.turns (recursion_from_All IsTurn _ (All-replicate IsTurn count t named));
 }
 
 more_orders : (s : ScriptState) (order : Order) → IsWithin s → IsOrder order → limit_of s order ≡ None → IsWithin (with_order s order)
@@ -57,7 +53,7 @@ more_orders s (Operation c k) is named within =
     record {
       few_ops = omega (arith, length-append s.ops (op ∷ []), few_ops _ both.0);
       few_turns = is.few_turns;
-      ops = all_more IsOperation s.ops (op ∷ []) is.ops (record { client = low_client c both.1; row = named }, tt);
+      ops = all-append IsOperation s.ops (op ∷ []) is.ops (record { client = low_client c both.1; row = named }, tt);
       turns = is.turns;
     }
 more_orders s (Turns t count) is named within = more_turns s t count is within named

@@ -3,7 +3,7 @@ use Rattle.std.proofs.Common.{◌≡◌, ◌<◌, ℕ, List, [], ◌∷◌, Bool
 use Rattle.std.specs.Prelude.{nat_lt, if◌then◌else◌, ⊤}
 use Rattle.std.specs.Str.{bytes_eq}
 use Rattle.std.proofs.lemmas.Bool.Decides.{nat_tests}
-use Rattle.imsm_base.specs.declared.bounds.TheConstants.{MAX_VOLUMES}
+use Rattle.units.specs.declared.bounds.TheConstants.{MAX_VOLUMES}
 use Rattle.run_script.specs.declared.order.Order.{Order}
 use Rattle.run_script.specs.declared.order.Order.TheVariants.{Operation, Turns, ClientTurns}
 use Rattle.run_script.specs.declared.fault.LineKind.{LineKind}

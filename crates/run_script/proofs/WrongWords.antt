@@ -2,7 +2,7 @@
 use Rattle.std.proofs.Common.{◌≡◌, ◌≢◌, ℕ, List, [], ◌∷◌, ◌++◌, Bool, true, false, refl, sym, ◌∙◌, ap, Some, None, Option, Ok, Err, Result, ◌⊎◌, inl, inr}
 use Rattle.std.specs.Prelude.{codes, if◌then◌else◌, ⊤}
 use Rattle.std.specs.Str.{bytes_eq}
-use Rattle.imsm_base.specs.declared.units.VolNo.{VolNo}
+use Rattle.units.specs.declared.volume.VolNo.{VolNo}
 use Rattle.array_model.specs.declared.script.OpKind.TheVariants.{Write, Read}
 use Rattle.array_model.specs.declared.script.Turn.{Turn}
 use Rattle.array_model.specs.declared.script.Turn.TheVariants.{Monitor, Manager, Sync, Quiet}

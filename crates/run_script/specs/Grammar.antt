@@ -1,8 +1,8 @@
 -- The lines of a script. Source: this project's own.
 use Rattle.std.specs.Prelude.{ℕ, ◌==◌, nat_lt, not, Bool, true, List, [], ◌∷◌, codes, Option, Some, None, Result, Ok, Err, if◌then◌else◌}
 use Rattle.std.specs.List.{slice_split}
-use Rattle.imsm_base.specs.declared.bounds.TheConstants.{MAX_VOLUMES}
-use Rattle.imsm_base.specs.declared.units.VolNo.{VolNo}
+use Rattle.units.specs.declared.bounds.TheConstants.{MAX_VOLUMES}
+use Rattle.units.specs.declared.volume.VolNo.{VolNo}
 use Rattle.array_model.specs.declared.script.OpKind.TheVariants.{Write, Read}
 use Rattle.array_model.specs.declared.script.Turn.{Turn}
 use Rattle.array_model.specs.declared.script.Turn.TheVariants.{Monitor, Manager, Sync, Quiet}

@@ -1,20 +1,18 @@
 -- The numbers and values of a script. Source: this project's own.
-use Rattle.std.specs.Prelude.{ℕ, ◌^◌, ◌==◌, ◌&&◌, ◌||◌, nat_lt, nat_le, not, Bool, List, length, slice_index, Option, Some, None, if◌then◌else◌}
+use Rattle.std.specs.Prelude.{ℕ, ◌^◌, ◌==◌, ◌&&◌, ◌||◌, nat_lt, not, Bool, List, length, slice_index, Option, Some, None, if◌then◌else◌}
 use Rattle.std.specs.Char.{is_ascii_digit}
 use Rattle.std.specs.List.{list_all}
 use Rattle.std.specs.Str.Parse.{digits_value}
+use Rattle.units.specs.Digits.{is_hex_digit}
 
 -- decimal digits, with no zero before another digit
 abbrev pub is_decimal : List ℕ → Bool
-is_decimal word = nat_lt 0 (length word) && (length word == 1 || not (slice_index word 0 == 0x30)) && list_all is_ascii_digit word
+is_decimal word =
+    nat_lt 0 (length word) && (length word == 1 || not (slice_index word 0 == 0x30)) && list_all is_ascii_digit word
 
 -- the number that a word spells, if it is one below 2^64
 abbrev pub number_of : List ℕ → Option ℕ
 number_of word = if is_decimal word && nat_lt (digits_value 10 word) (2 ^ 64) then Some (digits_value 10 word) else None
-
--- a lower-case hexadecimal digit
-abbrev pub is_hex_digit : ℕ → Bool
-is_hex_digit c = is_ascii_digit c || (nat_le 0x61 c && nat_le c 0x66)
 
 -- 16 such digits
 abbrev pub is_value : List ℕ → Bool

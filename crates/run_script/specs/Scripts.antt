@@ -44,7 +44,8 @@ wrong_with before number (Ok (Some order)) = limit_of before order
 
 abbrev pub wrong_in : Bool → List (List ℕ) → ℕ → Option (List ℕ) → Option ScriptFault
 wrong_in turns lines k None = None
-wrong_in turns lines k (Some line) = wrong_with (script_of (orders_in turns (take k lines))) (k + 1) (asked_by turns line)
+wrong_in turns lines k (Some line) =
+    wrong_with (script_of (orders_in turns (take k lines))) (k + 1) (asked_by turns line)
 
 -- what is wrong with line k, counted from 0
 abbrev pub wrong_at : Bool → List (List ℕ) → ℕ → Option ScriptFault

@@ -1,7 +1,7 @@
 -- What every script that is taken keeps to. Source: this project's own.
 use Rattle.std.specs.Prelude.{◌<◌, ◌≤◌, length, ⊤}
 use Rattle.std.specs.List.{AllByRecursion}
-use Rattle.imsm_base.specs.declared.bounds.TheConstants.{MAX_DISKS, MAX_VOLUMES}
+use Rattle.units.specs.declared.bounds.TheConstants.{MAX_DISKS, MAX_VOLUMES}
 use Rattle.array_model.specs.Kept.{ScriptState}
 use Rattle.array_model.specs.declared.script.Op.{Op}
 use Rattle.array_model.specs.declared.script.OpKind.{OpKind}

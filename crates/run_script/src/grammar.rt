@@ -9,7 +9,7 @@ use crate::numbers::{number_of, value_of};
 use crate::order::Order;
 use crate::pieces::Pieces;
 use array_model::{OpKind, Turn};
-use imsm_base::VolNo;
+use units::VolNo;
 
 fn word<'a>(words: &mut Pieces<'a>) -> Result<&'a [u8], LineKind>
     ensures { ReadsWord result words.old words.new }

@@ -1,4 +1,8 @@
 //! The text of a script: operations of clients, and turns.
+//!
+//! It owes that a script is what its lines ask for, in their order, and that a fault is the first wrong word of the
+//! first wrong line, or the limit that this line passes. `image_run` reads what its source gives by it, and
+//! `image_replay` takes as given what every script keeps to.
 #![tactic(auto)]
 
 mod fault;

@@ -3,7 +3,8 @@ ghost use Rattle.std.specs.Prelude.{◌≡◌, ◌≤◌, ◌^◌, nat_lt, Some,
 ghost use Rattle.std.specs.Char.{is_ascii_digit};
 ghost use Rattle.std.specs.List.{list_all};
 ghost use Rattle.std.specs.Str.Parse.{IsNumeral, digits_value};
-ghost use Rattle.run_script.specs.Numbers.{is_decimal, is_hex_digit, is_value, number_of, value_of};
+ghost use Rattle.run_script.specs.Numbers.{is_decimal, is_value, number_of, value_of};
+ghost use Rattle.units.specs.Digits.{is_hex_digit};
 
 fn are_digits(word: &[u8]) -> bool
     ensures { result ≡ list_all is_ascii_digit word.now }
@@ -34,7 +35,8 @@ fn parsed(word: &[u8], radix: u32) -> Option<u64>
     requires numeral { IsNumeral radix word.now }
     requires low { 2 ≤ radix }
     requires high { radix ≤ 16 }
-    ensures { result ≡ (if nat_lt (digits_value radix word.now) (2 ^ 64) then Some (digits_value radix word.now) else None) }
+    ensures { result
+        ≡ (if nat_lt (digits_value radix word.now) (2 ^ 64) then Some (digits_value radix word.now) else None) }
 {
     match str::from_utf8(word) {
         Ok(text) => u64::from_str_radix(text, radix).ok(),

@@ -3,11 +3,11 @@ ghost use Rattle.std.specs.Prelude.{◌≡◌, ◌<◌, Some};
 ghost use Rattle.imsm_base.specs.Layout.{volume_count_of};
 ghost use Rattle.imsm_codec.specs.Mpb.{block_of, volume_at};
 ghost use Rattle.imsm_view.specs.Questions.{pass_start as view_start, wants_pass as view_wants};
-ghost use Rattle.volume_verdict.specs.Verdicts.{IsVerdict, has_parity, pass_from, view_verdict};
+ghost use Rattle.volume_verdict.specs.Verdicts.{IsVolumeVerdict, has_parity, pass_from, view_verdict};
 
-use imsm_base::{Level, VolNo};
 use imsm_codec::MpbRef;
 use imsm_view::{Volume, VolumeFault, volume_of};
+use units::{Level, VolNo};
 
 /// What is said of a volume: the first of these that holds.
 #[derive(Clone, Copy, Debug, PartialEq, Eq)]
@@ -65,7 +65,7 @@ pub fn verdict_on(volume: &Volume) -> VolumeVerdict
 /// What is said of a volume of a block.
 pub fn verdict_of(mpb: &MpbRef<'_>, v: VolNo) -> VolumeVerdict
     requires { v.0 < volume_count_of (block_of mpb.now) }
-    ensures { IsVerdict (block_of mpb.now) v.0 (volume_at v.0 (block_of mpb.now)) result }
+    ensures { IsVolumeVerdict (block_of mpb.now) v.0 (volume_at v.0 (block_of mpb.now)) result }
 {
     match volume_of(mpb, v) {
         Ok(volume) => verdict_on(&volume),

@@ -1,6 +1,6 @@
 use Rattle.std.proofs.Common.{◌≡◌, List, ◌∙◌, subst, inr, map}
 use Rattle.std.specs.Prelude.{Contains}
-use Rattle.imsm_base.specs.declared.units.DiskNo.{DiskNo}
+use Rattle.units.specs.declared.disk.DiskNo.{DiskNo}
 use Rattle.imsm_codec.specs.Mpb.{block_bytes}
 use Rattle.generation_pick.specs.declared.found.FoundAt.{FoundAt}
 use Rattle.generation_pick.specs.Picks.{IsPicked}

@@ -2,7 +2,7 @@ use Rattle.std.proofs.Common.{◌≡◌, ℕ, List, Some, subst, sym}
 use Rattle.std.specs.Prelude.{slice_get}
 use Rattle.imsm_codec.specs.Mpb.{block_of, volume_at}
 use Rattle.volume_verdict.specs.declared.verdict.VolumeVerdict.{VolumeVerdict}
-use Rattle.volume_verdict.specs.Verdicts.{IsVerdict}
+use Rattle.volume_verdict.specs.Verdicts.{IsVolumeVerdict}
 use Rattle.assembly.proofs.Found.{count_more, each_more}
 use Rattle.assembly.proofs.opening.volumes_of.Goals as goal
 
@@ -10,7 +10,7 @@ pub loop-v-preserved : goal.loop-v-preserved
 loop-v-preserved c =
     let b = block_of c.args.mpb.now in
     let before = c.loop-v.list.items in
-    let says : ℕ → VolumeVerdict → Type 0 = λ k v. IsVerdict b k (volume_at k b) v in
+    let says : ℕ → VolumeVerdict → Type 0 = λ k v. IsVolumeVerdict b k (volume_at k b) v in
     record {
       count = count_more before c.push.new.self.items c.verdict_of.result c.loop-v.v c.in_ok-push.ensures.items c.loop-v.invariant.count;
       each = λ k v is. each_more says before c.verdict_of.result c.loop-v.invariant.each (subst (λ k. says k c.verdict_of.result) (sym c.loop-v.invariant.count) c.verdict_of.ensures) k v

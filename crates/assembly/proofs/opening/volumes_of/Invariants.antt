@@ -2,11 +2,11 @@ use Rattle.std.proofs.Common.{◌≡◌, ℕ, length, Some}
 use Rattle.std.specs.Prelude.{slice_get}
 use Rattle.imsm_codec.specs.Mpb.{block_of, volume_at}
 use Rattle.volume_verdict.specs.declared.verdict.VolumeVerdict.{VolumeVerdict}
-use Rattle.volume_verdict.specs.Verdicts.{IsVerdict}
+use Rattle.volume_verdict.specs.Verdicts.{IsVolumeVerdict}
 use Rattle.assembly.proofs.opening.volumes_of.Given as goal
 
 abbrev pub invariant-loop-v : goal.invariant-loop-v
 invariant-loop-v l = record {
   count : length l.list.items ≡ l.v;
-  each : (k : ℕ) (v : VolumeVerdict) → slice_get l.list.items k ≡ Some v → IsVerdict (block_of l.mpb) k (volume_at k (block_of l.mpb)) v;
+  each : (k : ℕ) (v : VolumeVerdict) → slice_get l.list.items k ≡ Some v → IsVolumeVerdict (block_of l.mpb) k (volume_at k (block_of l.mpb)) v;
 }

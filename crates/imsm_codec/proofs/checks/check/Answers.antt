@@ -1,7 +1,7 @@
 use Rattle.std.proofs.Common.{◌≡◌, ◌≤◌, ℕ, length, take, sym, subst, List, refl, arith}
 use Rattle.std.proofs.lemmas.Result.{err_from_is_err_and}
 use Rattle.std.proofs.lemmas.List.{length-take}
-use Rattle.imsm_base.specs.declared.bounds.TheConstants.{MAX_BLOCK_BYTES}
+use Rattle.units.specs.declared.bounds.TheConstants.{MAX_BLOCK_BYTES}
 use Rattle.imsm_base.specs.Whole.{IsWholeBlock}
 use Rattle.imsm_base.specs.Parts.{block_in}
 use Rattle.imsm_codec.specs.Given.{size_in, given_block, IsGiven}

@@ -1,14 +1,10 @@
-use Rattle.std.proofs.Common.{◌≡◌, sym, ◌∙◌, subst, Bool, true}
-use Rattle.std.specs.Prelude.{◌↔◌}
+use Rattle.std.proofs.Common.{sym, ◌∙◌}
 use Rattle.imsm_base.specs.Layout.{Block, Volume}
 use Rattle.imsm_base.specs.FirstForm.{IsCleanMirror}
 use Rattle.imsm_codec.specs.Mpb.{block_bytes, block_of, volume_at}
 use Rattle.imsm_codec.proofs.Found.{one_volume, volumes_counted}
-use Rattle.imsm_codec.proofs.Mirror.{mirror_decided}
+use Rattle.imsm_codec.proofs.Mirror.{mirror_decided, same_test}
 use Rattle.imsm_codec.proofs.first_form.is_clean_mirror.Goals as goal
-
-same_test : (r s : Bool) (P : Type 0) → r ≡ s → s ≡ true ↔ P → r ≡ true ↔ P
-same_test r s P e h = subst (λ (t : Bool). t ≡ true ↔ P) (sym e) h
 
 pub returns : goal.returns
 returns c =

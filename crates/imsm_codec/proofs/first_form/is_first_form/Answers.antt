@@ -1,15 +1,11 @@
-use Rattle.std.proofs.Common.{◌≡◌, sym, ◌∙◌, subst, Bool, true}
-use Rattle.std.specs.Prelude.{◌↔◌}
+use Rattle.std.proofs.Common.{sym, ◌∙◌, true}
 use Rattle.std.proofs.lemmas.Bool.{false≢true}
 use Rattle.imsm_base.specs.Layout.{Block}
 use Rattle.imsm_base.specs.FirstForm.{IsFirstForm}
 use Rattle.imsm_codec.specs.Mpb.{block_bytes, block_of}
 use Rattle.imsm_codec.proofs.Found.{one_volume, volumes_counted}
-use Rattle.imsm_codec.proofs.Mirror.{form_decided, not_one_volume}
+use Rattle.imsm_codec.proofs.Mirror.{form_decided, not_one_volume, same_test}
 use Rattle.imsm_codec.proofs.first_form.is_first_form.Goals as goal
-
-same_test : (r s : Bool) (P : Type 0) → r ≡ s → s ≡ true ↔ P → r ≡ true ↔ P
-same_test r s P e h = subst (λ (t : Bool). t ≡ true ↔ P) (sym e) h
 
 pub returns-then-volumes-ne1 : goal.returns-then-volumes-ne1
 returns-then-volumes-ne1 c =

@@ -1,6 +1,6 @@
 use Rattle.std.proofs.Common.{◌≡◌, ℕ, ◌+◌, ◌&&◌, ◌^◌, Bool, sym, ◌∙◌, ap}
 use Rattle.std.specs.Prelude.{nat_le}
-use Rattle.imsm_base.specs.declared.bounds.TheConstants.{METADATA_SECTORS}
+use Rattle.units.specs.declared.bounds.TheConstants.{METADATA_SECTORS}
 use Rattle.imsm_base.specs.Layout.{Block, Volume, Map, volume_size_of, pba_of}
 use Rattle.imsm_base.specs.Volumes.{member, first_map, has_sectors}
 use Rattle.imsm_codec.specs.Mpb.{block_bytes, block_of, volume_at}

@@ -2,12 +2,13 @@ use Rattle.std.proofs.Common.{◌≡◌, ℕ, ◌<◌, ◌&&◌, not, Bool, true
 use Rattle.std.specs.Prelude.{slice_get}
 use Rattle.std.specs.Option.{option_map_or}
 use Rattle.std.proofs.lemmas.Bool.{eq-eqb, ne_eqb}
+use Rattle.std.proofs.lemmas.Option.{slice_get-get_or}
 use borrow.Author.Count.{below_more}
 use Rattle.imsm_base.specs.Layout.{Block, Volume}
 use Rattle.imsm_base.specs.Volumes.{is_over, overlaps}
 use Rattle.imsm_codec.specs.Mpb.{block_bytes, block_of, volume_at, blank_volume}
 use Rattle.imsm_codec.proofs.Found.{volumes_counted}
-use Rattle.imsm_view.proofs.Members.{find_none, find_least, slice_get_here}
+use Rattle.imsm_view.proofs.Members.{find_none, find_least}
 use Rattle.imsm_view.proofs.overlap.overlap_of.Goals as goal
 use Rattle.imsm_view.proofs.overlap.overlap_of.Goals.{else-other-v-via-then-other-v+else-is_over, else-other-v-via-else-other-v}
 
@@ -18,7 +19,7 @@ itself b k other v same = ap (λ (t : Bool). not t && option_map_or (is_over v) 
 another : (b : Block) (k other : ℕ) (v : Volume) (r t : Bool) → (other ≡ k → ⊥) → other < length b.volumes → r ≡ is_over v (volume_at other b) → r ≡ t → overlaps b k v other ≡ t
 another b k other v r t apart below is e =
     ap (λ (x : Bool). not x && option_map_or (is_over v) (slice_get b.volumes other) false) (ne_eqb other k apart)
-    ∙ ap (λ (o : Option Volume). option_map_or (is_over v) o false) (slice_get_here b.volumes other blank_volume below)
+    ∙ ap (λ (o : Option Volume). option_map_or (is_over v) o false) (slice_get-get_or b.volumes other blank_volume below)
     ∙ sym is ∙ e
 
 pub returns-then-is_over : goal.returns-then-is_over

@@ -2,8 +2,8 @@ use Rattle.std.proofs.Common.{◌≡◌, ℕ, ◌-◌, ◌&&◌, Bool, true, Lis
 use Rattle.std.specs.Prelude.{Some}
 use Rattle.std.specs.List.{list_any}
 use Rattle.std.proofs.lemmas.List.{take-map, drop-map, take_all}
-use Rattle.imsm_base.specs.declared.units.Level.{Level}
-use Rattle.imsm_base.specs.Volumes.{suffices}
+use Rattle.units.specs.declared.volume.Level.{Level}
+use Rattle.units.specs.Levels.{suffices}
 use Rattle.imsm_view.specs.declared.volume.SlotView.{SlotView}
 use Rattle.imsm_view.specs.Questions.{is_slot_in_sync}
 use Rattle.imsm_view.proofs.Words.{list_any-map}

@@ -4,9 +4,10 @@ use Rattle.mpb_store.specs.Reading.{places_left}
 use Rattle.mpb_store.specs.Banks.{IsReadFrom, LogsReads, LogsLook}
 use Rattle.mpb_store.proofs.Followed.{reads_both, some_left}
 use Rattle.mpb_store.proofs.Placing.{left_open}
-use Rattle.mpb_store.proofs.Told.{unread_is, answer_told, whole_told, small_there, none_left, rose_later}
+use Rattle.mpb_store.proofs.Told.{unread_is, answer_told, whole_told, small_there, none_left}
 use Rattle.mpb_store.proofs.Looked.{looked}
 use Rattle.mpb_store.proofs.disk.found.Goals as goal
+use Rattle.member_bank.proofs.Faults.{rose_later}
 
 pub loop-place-preserved : goal.loop-place-preserved
 loop-place-preserved g c =

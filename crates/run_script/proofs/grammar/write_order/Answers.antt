@@ -1,5 +1,5 @@
 use Rattle.std.proofs.Common.{ℕ, sym, ◌∙◌}
-use Rattle.imsm_base.specs.declared.units.VolNo.{VolNo}
+use Rattle.units.specs.declared.volume.VolNo.{VolNo}
 use Rattle.array_model.specs.declared.script.OpKind.TheVariants.{Write}
 use Rattle.run_script.specs.declared.order.Order.TheVariants.{Operation}
 use Rattle.run_script.specs.Forms.{Form, Ends, Digits}

@@ -1,5 +1,5 @@
 use Rattle.std.proofs.Common.{◌<◌, sym, ap, subst, ◌∙◌, arith}
-use Rattle.imsm_base.specs.declared.bounds.TheConstants.{MAX_DISKS}
+use Rattle.units.specs.declared.bounds.TheConstants.{MAX_DISKS}
 use Rattle.imsm_base.specs.Layout.{disk_count_of}
 use Rattle.imsm_buffer.specs.Buffer.{Buffer, parts_of}
 use Rattle.imsm_buffer.specs.Record.{part_of}

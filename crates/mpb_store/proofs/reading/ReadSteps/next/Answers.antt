@@ -1,6 +1,6 @@
 use Rattle.std.proofs.Common.{◌≡◌, ℕ, ◌+◌, ◌-◌, ◌/◌, ◌<◌, List, length, sym, ◌∙◌, ap, subst, arith}
 use Rattle.std.proofs.lemmas.Bool.Decides.{nat_tests}
-use Rattle.imsm_base.specs.Whole.{extended_count}
+use Rattle.units.specs.Places.{extended_count}
 use Rattle.imsm_codec.specs.Given.{size_in}
 use Rattle.mpb_store.specs.declared.reading.ReadStep.TheVariants.{Read}
 use Rattle.mpb_store.specs.Reading.{Reading, places_left, first_read, IsCut}
