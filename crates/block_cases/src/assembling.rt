@@ -6,13 +6,14 @@ use crate::mirror::serial;
 use assembly::{AssemblyFault, Opening, Seen, SeenAs, Verdict, judge};
 use disk_roles::{DiskRole, Lack, Missing};
 use generation_pick::PickFault;
-use imsm_base::{DiskNo, get_u32, put_u32};
+use imsm_base::{get_u32, put_u32};
 use imsm_buffer::MpbBuf;
 use imsm_codec::check;
 use mpb_store::StoreFault;
 use std::alloc::Global;
 use std::process::Abort;
 use std::test::Fail;
+use units::DiskNo;
 use volume_verdict::VolumeVerdict;
 
 type Bytes = [u8; 480];

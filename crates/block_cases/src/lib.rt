@@ -1,22 +1,9 @@
-//! Worked cases of metadata blocks: what is read of one, how it is edited and printed, what stands on disks, and which
-//! blocks are made.
+//! Worked cases of metadata blocks: verdicts on a container by what was seen of its disks, and marks of a volume.
 #![tactic(auto)]
 
 #[cfg(test)]
 mod assembling;
 #[cfg(test)]
-mod banks;
-#[cfg(test)]
-mod creating;
-#[cfg(test)]
-mod editing;
-#[cfg(test)]
 mod marking;
 #[cfg(test)]
 mod mirror;
-#[cfg(test)]
-mod printing;
-#[cfg(test)]
-mod reading;
-#[cfg(test)]
-mod storing;

@@ -5,11 +5,11 @@ ghost use Rattle.imsm_edit.specs.Meanings.{AreFacts, is_told};
 
 use crate::mirror::changed;
 use arrayvec::ArrayVec;
-use imsm_base::VolNo;
 use imsm_buffer::{MpbBuf, NoRoom};
 use imsm_codec::check;
 use imsm_edit::{EditFacts, mark_clean, mark_dirty, mark_point, start_pass};
 use imsm_view::volume_of;
+use units::VolNo;
 
 /// The facts of a block whose one volume is started, and whose two disks are working.
 fn facts_of(book: &MpbBuf) -> Option<EditFacts>
