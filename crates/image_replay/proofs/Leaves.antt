@@ -1,5 +1,5 @@
 -- What a stage leaves, that was opened on images that start.
-use Rattle.std.proofs.Common.{◌≡◌, ℕ, ◌+◌, ◌^◌, ◌<◌, ◌≤◌, ◌||◌, ◌⊎◌, inl, inr, true, false, List, ◌++◌, length, Option, Some, None, refl, ap, sym, subst, ◌∙◌, arith}
+use Rattle.std.proofs.Common.{◌≡◌, ℕ, ◌+◌, ◌^◌, ◌<◌, ◌≤◌, ◌||◌, ◌⊎◌, inl, inr, true, false, List, ◌++◌, length, Option, Some, None, refl, ap, sym, subst, ◌∙◌, arith, ◌*◌, zero, suc}
 use Rattle.std.specs.Prelude.{IfSome, nat_lt, nat_le}
 use Rattle.std.specs.List.{list_all}
 use Rattle.std.proofs.lemmas.Bool.{leb-true, ltb-true, or_cases}
@@ -35,6 +35,7 @@ use Rattle.image_verdict.proofs.Reading.{anchors_only_read, found_later}
 use Rattle.image_start.specs.Starts.{Starts}
 use Rattle.image_start.specs.Openings.{Opens, opened_on}
 use Rattle.image_start.proofs.Contents.{is-opening}
+use Rattle.image_start.proofs.Images.{length-serials}
 use Rattle.image_replay.specs.Runs.{HasEnded, LeavesRun, failed_disk}
 use Rattle.stage_law.proofs.Laws.{same_behind}
 use Rattle.member_bank.proofs.Faults.{rose_later}
@@ -55,12 +56,21 @@ if_told : {T : Type 0} (P : T → Type 0) (told : Option T) → ((t : T) → tol
 if_told P None each = tt
 if_told P (Some t) each = each t refl
 
--- the journal has too little room left, or too many calls were made
-pub no_room : (limit entries calls : ℕ) → (nat_lt limit (entries + 4) || nat_le (2 ^ 48) calls) ≡ true → (limit < entries + 4) ⊎ (2 ^ 48 ≤ calls)
-no_room limit entries calls full = at (or_cases (nat_lt limit (entries + 4)) (nat_le (2 ^ 48) calls) full) where
-  at : (nat_lt limit (entries + 4) ≡ true) ⊎ (nat_le (2 ^ 48) calls ≡ true) → (limit < entries + 4) ⊎ (2 ^ 48 ≤ calls)
-  at (inl little) = inl (ltb-true limit (entries + 4) little)
-  at (inr many) = inr (leb-true (2 ^ 48) calls many)
+mul_le : (a c n : ℕ) → a ≤ c → a * n ≤ c * n
+mul_le a c zero le = omega arith
+mul_le a c (suc n) le = let more = mul_le a c n le in omega (arith, le, more)
+
+-- Where too many calls were made, or the journal has too little room left, it has too little room left: a run of so few
+-- entries, on at most 16 disks, doesn't make so many calls.
+pub no_room : (limit entries calls disks : ℕ) → limit ≤ 2 ^ 20 → disks ≤ 16 → calls ≤ (2 * disks + 4) * entries
+    → (nat_lt limit (entries + 4) || nat_le (2 ^ 48) calls) ≡ true → limit < entries + 4
+no_room limit entries calls disks small few made full = at (or_cases (nat_lt limit (entries + 4)) (nat_le (2 ^ 48) calls) full) where
+  at : (nat_lt limit (entries + 4) ≡ true) ⊎ (nat_le (2 ^ 48) calls ≡ true) → limit < entries + 4
+  at (inl little) = ltb-true limit (entries + 4) little
+  at (inr many) =
+      let calls_many = leb-true (2 ^ 48) calls many in
+      let most = mul_le (2 * disks + 4) 36 entries (omega (arith, few)) in
+      omega (arith, small, made, calls_many, most)
 
 read_before : (log : Option (List Call)) (reads : List Call) → IfSome log (λ l. l ≡ reads) → (before : List Call) → log ≡ Some before → before ≡ reads
 read_before log reads made before is = subst (λ (l : Option (List Call)). IfSome l (λ x. x ≡ reads)) is made
@@ -114,18 +124,21 @@ module _ {B : Type 0} (ghosts : bank_of.Ghosts B) (bank : B) (op : Opening) (ima
       asks = low;
     }
 
-    ended : (AllStill last → HasComeToRest (start_of o) script.ops last.journal)
+    ended : limit ≤ 2 ^ 20 → KeepsForm (start_of o) (asked_by script) last.calls last.journal → (AllStill last → HasComeToRest (start_of o) script.ops last.journal)
         → ((actor : Action) → is_still (setting_of last.given) last.control actor ≡ false → HasComeToRest (start_of o) script.ops last.journal → ⊥)
-        → HasEnded (start_of o) script.ops limit last.calls (ghosts.faults_of last.bank) last.journal end
-    ended rests works = at end ends over where
+        → HasEnded (start_of o) script.ops limit (ghosts.faults_of last.bank) last.journal end
+    ended small form rests works = at end ends over where
+      few : length o.serials ≤ 16
+      few = let same : length o.serials ≡ length images = length-serials images in let most = starts.few in omega (arith, same, most)
+
       live : first.control.failed ≡ None
       live = ap (λ (c : Control). c.failed) is.begins
 
-      at : (e : DriveEnd) → EndsBy last e → (e ≡ Over → AllStill last) → HasEnded (start_of o) script.ops limit last.calls (ghosts.faults_of last.bank) last.journal e
+      at : (e : DriveEnd) → EndsBy last e → (e ≡ Over → AllStill last) → HasEnded (start_of o) script.ops limit (ghosts.faults_of last.bank) last.journal e
       at Over by still = rests (still refl)
       at Full by still = (
         works by.actor by.waits,
-        no_room limit (length last.journal) last.calls
+        no_room limit (length last.journal) last.calls (length o.serials) small few form.few
             (subst (λ room. (nat_lt room (length last.journal + 4) || nat_le (2 ^ 48) last.calls) ≡ true) (follows.room ∙ is.room) by.full),
       )
       at (Member d) by still = rose_later 0 (ghosts.faults_of first.bank d.0) (ghosts.faults_of last.bank d.0) (omega arith) (kept.cause live d.0 by)
@@ -136,13 +149,13 @@ module _ {B : Type 0} (ghosts : bank_of.Ghosts B) (bank : B) (op : Opening) (ima
         → (AsksRows script.ops → AllStill last → HasComeToRest (start_of o) script.ops last.journal)
         → ((actor : Action) → is_still (setting_of last.given) last.control actor ≡ false → HasComeToRest (start_of o) script.ops last.journal → ⊥)
         → ((all run : List Call) → ghosts.log last.bank ≡ Some all → IsSince last.calls all run → EndsAtFailure run last.journal last.control.failed)
-        → BeginsWithRoom last.room last.journal
+        → BeginsWithRoom last.room last.journal → limit ≤ 2 ^ 20
         → LeavesRun o (asked_by script) limit (anchor_reads images) (bank_told ghosts last.bank) last.journal end
-    leaves form laws rests works fails room = record {
+    leaves form laws rests works fails room small = record {
       calls = last.calls;
       form = form;
       room = subst (λ most. BeginsWithRoom most last.journal) (follows.room ∙ is.room) room;
-      cause = ended (rests rows) works;
+      cause = ended small form (rests rows) works;
       told = if_told _ (ghosts.log last.bank) (λ all known.
           let it = laws all known in
           record {

@@ -1,5 +1,5 @@
 -- What a run leaves, of a script on a bank whose disks held a container. Source: this project's own.
-use Rattle.std.specs.Prelude.{◌≡◌, ℕ, ◌+◌, ◌^◌, ◌<◌, ◌≤◌, ◌⊎◌, List, ◌++◌, length, Option, Some, None, IfSome}
+use Rattle.std.specs.Prelude.{◌≡◌, ℕ, ◌+◌, ◌<◌, List, ◌++◌, length, Option, Some, None, IfSome}
 use Rattle.units.specs.declared.disk.Sector.{Sector}
 use Rattle.device_log.specs.Log.{Call}
 use Rattle.member_bank.specs.Faults.{Rose}
@@ -18,12 +18,11 @@ use Rattle.stage_law.specs.Laws.{KeepsForm, KeepsLaws, IsLeftClean}
 use Rattle.image_outside.specs.Told.{BankTold}
 
 -- The cause of a run's end. It is over where it has come to rest, with each operation answered. It is full where it has
--- not, and the journal has fewer than four entries left, or 2 ^ 48 calls were made. Or a call on the disk failed.
-abbrev pub HasEnded : Start → List Op → (limit calls : ℕ) → (faults : ℕ → ℕ) → List Entry → DriveEnd → Type 0
-HasEnded start ops limit calls faults journal Over = HasComeToRest start ops journal
-HasEnded start ops limit calls faults journal Full =
-    (HasComeToRest start ops journal → ⊥) × ((limit < length journal + 4) ⊎ (2 ^ 48 ≤ calls))
-HasEnded start ops limit calls faults journal (Member d) = Rose 0 (faults d.0)
+-- not, and the journal has fewer than four entries left. Or a call on the disk failed.
+abbrev pub HasEnded : Start → List Op → (limit : ℕ) → (faults : ℕ → ℕ) → List Entry → DriveEnd → Type 0
+HasEnded start ops limit faults journal Over = HasComeToRest start ops journal
+HasEnded start ops limit faults journal Full = (HasComeToRest start ops journal → ⊥) × (limit < length journal + 4)
+HasEnded start ops limit faults journal (Member d) = Rose 0 (faults d.0)
 
 -- the disk on which the last call of a run failed
 abbrev pub failed_disk : DriveEnd → Option ℕ
@@ -50,5 +49,5 @@ pub record LeavesRun (o : Opened) (asked : Asked) (limit : ℕ) (before : List C
   pub calls : ℕ
   pub form : KeepsForm (start_of o) asked calls journal
   pub room : BeginsWithRoom limit journal
-  pub cause : HasEnded (start_of o) asked.ops limit calls bank.faults journal ended
+  pub cause : HasEnded (start_of o) asked.ops limit bank.faults journal ended
   pub told : IfSome bank.log (λ log. LeavesCalls o asked bank.opening before log calls journal ended)

@@ -24,6 +24,7 @@ use Rattle.answer_law.proofs.Order.{in_order}
 use Rattle.answer_law.proofs.JobKinds.{reads_in_sync}
 use Rattle.cause_law.proofs.Law.{caused_reached}
 use Rattle.cause_law.proofs.Short.{short_reached}
+use Rattle.call_law.proofs.Calls.{few_reached}
 use Rattle.row_law.proofs.Answers.{answers_reached}
 use Rattle.row_law.proofs.Causes.{causes_reached}
 use Rattle.stage_law.specs.Laws.{KeepsForm, KeepsLog}
@@ -44,6 +45,7 @@ module _ (asks : AsksFirst small_setting) (renews : Renews small_setting) (on : 
     order = in_order small_setting asks (world turns) reached;
     causes = caused_reached small_setting asks renews on volume (world turns) fits reached;
     short = short_reached small_setting asks renews on (world turns) fits reached;
+    few = few_reached small_setting renews on 8 (omega arith) (omega arith) (world turns) fits reached;
   }
 
   pub kept : KeepsLog small_renew small_start the_script (world turns).log (world turns).journal

@@ -1,7 +1,8 @@
 -- What a stage's run keeps, over disks that held a container.
-use Rattle.std.proofs.Common.{◌≡◌, ℕ, ◌+◌, Bool, true, false, List, [], ◌++◌, length, take, drop, Option, Some, None, refl, ap, sym, subst, ◌∙◌, arith, length-append}
+use Rattle.std.proofs.Common.{◌≡◌, ℕ, ◌+◌, Bool, true, false, List, [], ◌++◌, length, take, drop, Option, Some, None, refl, ap, sym, subst, ◌∙◌, arith, length-append, ◌*◌, ◌≤◌}
 use Rattle.std.specs.List.{AllByRecursion}
 use Rattle.std.proofs.lemmas.Bool.Decides.{nat_tests}
+use Rattle.std.proofs.lemmas.List.FromFn.{length-range_with_len}
 use Rattle.std.proofs.lemmas.List.{append-nil, take_all, drop_at}
 use Rattle.units.specs.declared.disk.Sector.{Sector}
 use Rattle.device_log.specs.Log.{Call}
@@ -45,7 +46,9 @@ use Rattle.control_state.specs.Still.{is_still}
 use Rattle.rest_law.proofs.Durable.{durably_clean}
 use Rattle.first_opening.specs.Opened.{Opened, IsOpening, setting_of}
 use Rattle.first_opening.specs.Copies.{HoldsCopies, first_copy, differs}
-use Rattle.first_opening.proofs.Found.{stands-on-all}
+use Rattle.first_opening.proofs.Found.{stands-on-all, targets-are}
+use Rattle.first_opening.proofs.Slots.{two-members}
+use Rattle.call_law.proofs.Calls.{few_reached}
 use Rattle.first_opening.proofs.Volume.{first-volume, slots-in-sync, no-pass}
 use Rattle.first_opening.proofs.Copies.{holds-content}
 use Rattle.first_opening.proofs.Asked.{asks-first}
@@ -69,12 +72,22 @@ module _ (o : Opened) (asked : Asked) (opens : IsOpening o) (asks : AsksFirst (s
   volume : IsFirstVolume T
   volume = first-volume o asked (first_copy o) (differs o) opens
 
+  -- a round writes to each disk, and the volume has two
+  targets_few : 2 * length T.targets ≤ 2 * length o.serials + 4
+  targets_few =
+      let count : length T.targets ≡ length o.serials = ap (λ (ds : List ℕ). length ds) (targets-are o opens) ∙ length-range_with_len 0 (length o.serials) in
+      omega (arith, count)
+
+  members_few : 2 * length T.members ≤ 2 * length o.serials + 4
+  members_few = let two : length T.members ≡ 2 = two-members o opens in omega (arith, two)
+
   pub form_of : (w : World) → FitsGeneration w.control.round.note → Reached T w → KeepsForm (start_of o) asked w.calls w.journal
   form_of w fits r = record {
     form = is_journal T asks renewal on w fits r;
     order = in_order T asks w r;
     causes = caused_reached T asks renewal on volume w fits r;
     short = short_reached T asks renewal on w fits r;
+    few = few_reached T renewal on (2 * length o.serials + 4) targets_few members_few w fits r;
   }
 
   pub log_of : (w : World) → FitsGeneration w.control.round.note → Reached T w → KeepsLog renewed (start_of o) asked w.log w.journal

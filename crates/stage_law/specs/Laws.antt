@@ -1,5 +1,5 @@
 -- The laws of a run, together. Source: this project's own.
-use Rattle.std.specs.Prelude.{◌≡◌, ℕ, ◌<◌, Bool, true, false, List, ◌++◌, length, Option, Some}
+use Rattle.std.specs.Prelude.{◌≡◌, ℕ, ◌<◌, Bool, true, false, List, ◌++◌, length, Option, Some, ◌+◌, ◌*◌, ◌≤◌}
 use Rattle.std.specs.List.{AllByRecursion}
 use Rattle.units.specs.declared.disk.Sector.{Sector}
 use Rattle.device_log.specs.Log.{Call, OnlyReads}
@@ -25,12 +25,14 @@ use Rattle.first_opening.specs.Copies.{HoldsCopies}
 use Rattle.stage_law.specs.Runs.{start_on, start_of}
 
 -- What needs no log: the form of the journal, the order of each client's answers, that each entry has its cause in
--- what stands before it, and that the journal is shorter than what is said to be enough.
+-- what stands before it, and that the journal is shorter than what is said to be enough. And that no more calls were
+-- made than the rounds and the operations of so many entries need, over so many disks and two copies.
 pub record KeepsForm (start : Start) (asked : Asked) (calls : ℕ) (journal : List Entry) : Type 0 where
   pub form : IsJournal start asked calls journal
   pub order : (client : ℕ) → IsInOrder asked.ops journal client
   pub causes : AreCaused start asked.ops journal
   pub short : IsShort start asked journal
+  pub few : calls ≤ (2 * start.disks.count + 4) * length journal
 
 -- What needs a log, and no contents: at each moment there is one block of the last finished round, and no other; the
 -- block of each round is a container's, it is durable on every working member when the round ends, and it is the block

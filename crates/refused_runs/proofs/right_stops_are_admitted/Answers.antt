@@ -26,7 +26,7 @@ returns-clause-full c =
       answers = record { order = keeps_form.order; values = search; reads = keeps_log.reads; whole = search };
       room = has_room 12 short_journal (omega arith);
       ends = record {
-        spent = inl (omega arith);
+        spent = omega arith;
         works = λ rests. let unanswered : false ≡ true = rests.answered 1 (omega arith) in cc unanswered;
         went = ends opening.asks opening.renews opening.stands opening.volume short_turns short_fits;
       };

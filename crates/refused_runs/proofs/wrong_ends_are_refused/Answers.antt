@@ -21,17 +21,7 @@ pub returns-clause-rested : goal.returns-clause-rested
 returns-clause-rested c limit calls admitted = admitted.ends.works c.example_of_the_rest.ensures.meets
 
 pub returns-clause-roomy : goal.returns-clause-roomy
-returns-clause-roomy c calls admitted =
-    elim admitted.ends.spent [
-      | inl room ↦ (
-          let spent : 13 < 13 = room in
-          omega (arith, spent)
-          )
-      | inr many ↦ (
-          let made : 12 ≡ calls = admitted.counted in
-          omega (arith, made, many)
-          )
-    ]
+returns-clause-roomy c calls admitted = let spent : 13 < 13 = admitted.ends.spent in omega (arith, spent)
 
 pub returns-clause-blamed : goal.returns-clause-blamed
 returns-clause-blamed c d limit calls admitted =

@@ -26,7 +26,7 @@ returns-clause-run g c contents stands =
     let it = leaves B c.args.bank c.opening_of.result images c.args.script.now c.args.limit c.in_ok-stage.stage last c.run_out-end.result
     c.requires.reads c.in_ok-stage.ensures.ok left.follows left.bank left.opening left.ends left.over
     contents c.requires.starts stands (sym c.requires.found.sized) c.requires.rows c.requires.first (c.opening_of.ensures.opens contents)
-    (closed.form o asked run) (closed.laws o asked run) (closed.rests o asked run) (closed.works o asked run) closed.ends closed.room in
+    (closed.form o asked run) (closed.laws o asked run) (closed.rests o asked run) (closed.works o asked run) closed.ends closed.room c.requires.limit in
     subst (λ (b : g.row.B.Denot). LeavesRun o asked c.args.limit (anchor_reads images) (bank_told B b) c.finish-bank.result.1.entries c.run_out-end.result) (sym closed.parts.0)
     (subst (λ (j : List Entry). LeavesRun o asked c.args.limit (anchor_reads images) (bank_told B last.bank) j c.run_out-end.result) (sym closed.parts.1) it)
 
