@@ -10,6 +10,7 @@ use Rattle.new_container.specs.declared.container.NewContainer.{NewContainer}
 use Rattle.new_container.specs.declared.disk.NewDisk.{NewDisk}
 use Rattle.new_container.specs.Created.{CanCreate, created_block, created_bytes}
 use Rattle.new_container.specs.Fits.{total_rows}
+use Rattle.image_outside.specs.declared.status.TheConstants.Status.{DONE, MEMBER_FAULT, REFUSED}
 use Rattle.image_outside.specs.Told.{BankTold}
 use Rattle.image_outside.specs.Shelves.{IsFresh}
 use Rattle.image_outside.specs.Lines.{failed_member_line}
@@ -82,6 +83,6 @@ pub record StopsBy (made : NewContainer) (bank : BankTold) (lines : List ℕ) : 
 -- what the making of a container leaves of a bank, its lines and its status
 abbrev pub CreatesBy : NewContainer → BankTold → List ℕ → ℕ → Type 0
 CreatesBy made bank lines status =
-    ((status ≡ 0) × Creates made bank lines)
-    ⊎ ((status ≡ 3) × Refuses made bank lines)
-    ⊎ ((status ≡ 13) × StopsBy made bank lines)
+    ((status ≡ DONE.0) × Creates made bank lines)
+    ⊎ ((status ≡ REFUSED.0) × Refuses made bank lines)
+    ⊎ ((status ≡ MEMBER_FAULT.0) × StopsBy made bank lines)

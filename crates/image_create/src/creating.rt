@@ -5,6 +5,7 @@ ghost use Rattle.imsm_base.specs.Layout.{family_of};
 ghost use Rattle.imsm_buffer.specs.Buffer.{parts_of};
 ghost use Rattle.member_bank.specs.Told.{Keeps};
 ghost use Rattle.new_container.specs.Fits.{container_fits};
+ghost use Rattle.image_outside.specs.declared.status.TheConstants.Status.{DONE, MEMBER_FAULT, MEMORY, REFUSED};
 ghost use Rattle.image_outside.specs.Endings.{Ends, EndsIfMemory, Prints};
 ghost use Rattle.image_outside.specs.Shelves.{IsUncalled};
 ghost use Rattle.image_outside.specs.Told.{bank_told};
@@ -43,7 +44,7 @@ fn end_small<B: Bank, K: Sink>(bank: &B, d: DiskNo, sink: &mut K) -> Status
     requires { d.0 < length (B.sizes bank.now) }
     ensures { (serial : Serial) × (slice_get (B.serials bank.now) d.0 ≡ Some serial)
         × Ends (sink_told K.Sink sink.old) (sink_told K.Sink sink.new)
-        (Prints (small_line serial (slice_index (B.sizes bank.now) d.0)) 3) result.0 }
+        (Prints (small_line serial (slice_index (B.sizes bank.now) d.0)) REFUSED.0) result.0 }
 {
     let serial = bank.serial(d);
     let words = [
@@ -59,7 +60,7 @@ fn end_failed<B: Bank, K: Sink>(bank: &B, d: DiskNo, sink: &mut K) -> Status
     requires { d.0 < length (B.sizes bank.now) }
     ensures { (serial : Serial) × (slice_get (B.serials bank.now) d.0 ≡ Some serial)
         × Ends (sink_told K.Sink sink.old) (sink_told K.Sink sink.new)
-        (Prints (failed_member_line serial) 13) result.0 }
+        (Prints (failed_member_line serial) MEMBER_FAULT.0) result.0 }
 {
     let serial = bank.serial(d);
     let words = [Word::Name(&serial.0)];
@@ -75,10 +76,10 @@ fn end_laid<B: Bank, K: Sink>(
 ) -> Status
     requires { IfErr laid (λ d. d.0 < length (B.sizes bank.now)) }
     ensures created { OnOk laid (Ends (sink_told K.Sink sink.old) (sink_told K.Sink sink.new)
-        (Prints (created_line (family_of (parts_of block.now))) 0) result.0) }
+        (Prints (created_line (family_of (parts_of block.now))) DONE.0) result.0) }
     ensures failed { IfErr laid (λ d. (serial : Serial) × (slice_get (B.serials bank.now) d.0 ≡ Some serial)
         × Ends (sink_told K.Sink sink.old) (sink_told K.Sink sink.new)
-        (Prints (failed_member_line serial) 13) result.0) }
+        (Prints (failed_member_line serial) MEMBER_FAULT.0) result.0) }
 {
     match laid {
         Ok(()) => {
@@ -110,7 +111,7 @@ pub fn create<B: Bank, K: Sink>(
         (CreatesBy made.now (bank_told B.Bank bank.new)) result.0 }
 
     // Without memory, or where a disk is too small, no disk is touched, whatever the bank tells.
-    ensures untouched { result.0 ≡ 9 → bank.new ≡ bank.old }
+    ensures untouched { result.0 ≡ MEMORY.0 → bank.new ≡ bank.old }
     ensures refused { (d : ℕ) → IsFirstBelow (least_on made.now (bank_told B.Bank bank.old)) (B.sizes bank.old) d
         → bank.new ≡ bank.old }
     ensures opening { Keeps (B.opening bank.old) (B.opening bank.new) }

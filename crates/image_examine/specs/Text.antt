@@ -9,6 +9,7 @@ use Rattle.mpb_store.specs.declared.answer.Found.TheVariants.{Whole, Blank, Torn
 use Rattle.mpb_store.specs.declared.answer.StoreFault.{StoreFault}
 use Rattle.mpb_store.specs.declared.answer.StoreFault.TheVariants.{Mpb, NoOwn, Small}
 use Rattle.imsm_text.specs.Text.{hex_number, line}
+use Rattle.image_outside.specs.declared.status.TheConstants.Status.{DONE, REFUSED}
 use Rattle.examine.specs.Lines.{examine_lines}
 
 -- what is wrong with a block, as words
@@ -38,7 +39,7 @@ found_text Unread block = line (codes "unread") []
 
 -- the status with which it is printed
 abbrev pub found_status : Found → ℕ
-found_status Whole = 0
-found_status Blank = 3
-found_status (Torn fault) = 3
-found_status Unread = 3
+found_status Whole = DONE.0
+found_status Blank = REFUSED.0
+found_status (Torn fault) = REFUSED.0
+found_status Unread = REFUSED.0

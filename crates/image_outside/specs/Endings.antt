@@ -2,6 +2,7 @@
 use Rattle.std.specs.Prelude.{◌≡◌, ℕ, ◌⊎◌, List, codes}
 use Rattle.image_outside.specs.Outside.{Adds, BreaksOff}
 use Rattle.image_outside.specs.Told.{SinkTold}
+use Rattle.image_outside.specs.declared.status.TheConstants.Status.{MEMORY, WRITE_FAULT}
 
 -- It ended so, with these lines and this status, and all of the lines were written.
 pub record IsWritten (old new : SinkTold) (Outcome : List ℕ → ℕ → Type 0) (status : ℕ) : Type 0 where
@@ -18,7 +19,7 @@ pub record IsCutShort (old new : SinkTold) (Outcome : List ℕ → ℕ → Type 
 
 -- it ends so, or with a write fault where the lines were cut short
 abbrev pub Ends : (old new : SinkTold) (Outcome : List ℕ → ℕ → Type 0) (status : ℕ) → Type 0
-Ends old new Outcome status = IsWritten old new Outcome status ⊎ ((status ≡ 6) × IsCutShort old new Outcome)
+Ends old new Outcome status = IsWritten old new Outcome status ⊎ ((status ≡ WRITE_FAULT.0) × IsCutShort old new Outcome)
 
 -- with these lines and this status
 pub record Prints (lines : List ℕ) (status : ℕ) (told : List ℕ) (result : ℕ) : Type 0 where
@@ -35,4 +36,4 @@ EndsWithoutMemory old new =
 
 -- it ends so, with a write fault where the lines were cut short, or without memory
 abbrev pub EndsIfMemory : (old new : SinkTold) (Outcome : List ℕ → ℕ → Type 0) (status : ℕ) → Type 0
-EndsIfMemory old new Outcome status = Ends old new Outcome status ⊎ ((status ≡ 9) × EndsWithoutMemory old new)
+EndsIfMemory old new Outcome status = Ends old new Outcome status ⊎ ((status ≡ MEMORY.0) × EndsWithoutMemory old new)

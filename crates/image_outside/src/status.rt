@@ -1,12 +1,13 @@
 //! The status of a command, and how it ends.
 ghost use Rattle.std.specs.Prelude.{◌≡◌, OnOk, OnErr};
+ghost use Rattle.image_outside.specs.declared.status.TheConstants.Status.{MEMORY, WRITE_FAULT};
 ghost use Rattle.image_outside.specs.Endings.{Ends, EndsWithoutMemory, Prints};
 ghost use Rattle.image_outside.specs.Views.{sink_told};
 
 use crate::outside::{Sink, write_all};
 use member_bank::Failed;
 
-/// The status of a command.
+/// The status of a command. No command gives 11 or 12 yet.
 #[derive(Clone, Copy, Debug, PartialEq, Eq)]
 pub struct Status(pub u8);
 
@@ -43,7 +44,7 @@ impl Status {
 /// The status where all lines were written, or that of a write fault.
 pub fn status_after(written: Result<(), Failed>, status: Status) -> Status
     ensures ok { OnOk written (result ≡ status) }
-    ensures err { OnErr written (result.0 ≡ 6) }
+    ensures err { OnErr written (result.0 ≡ WRITE_FAULT.0) }
 {
     match written {
         Ok(()) => status,
@@ -60,7 +61,7 @@ pub fn end<K: Sink>(sink: &mut K, lines: &[u8], status: Status) -> Status
 
 /// Ends without memory, also where that can't be written.
 pub fn end_without_memory<K: Sink>(sink: &mut K) -> Status
-    ensures status { result.0 ≡ 9 }
+    ensures status { result.0 ≡ MEMORY.0 }
     ensures line { EndsWithoutMemory (sink_told K.Sink sink.old) (sink_told K.Sink sink.new) }
 {
     let _ = write_all(sink, b"memory\n");

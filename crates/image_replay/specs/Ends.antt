@@ -6,16 +6,17 @@ use Rattle.array_model.specs.declared.script.OpKind.{OpKind}
 use Rattle.array_model.specs.declared.script.OpKind.TheVariants.{Write, Read, Whole}
 use Rattle.stage.specs.declared.ends.DriveEnd.{DriveEnd}
 use Rattle.stage.specs.declared.ends.DriveEnd.TheVariants.{Over, Full, Member}
+use Rattle.image_outside.specs.declared.status.TheConstants.Status.{DONE, JOURNAL_FULL, MEMBER_FAULT, UNBUILT, WAITING}
 
 -- the status of a run: all is done, the journal is full, or a call failed
 abbrev pub end_status : DriveEnd → ℕ
-end_status Over = 0
-end_status Full = 8
-end_status (Member d) = 13
+end_status Over = DONE.0
+end_status Full = JOURNAL_FULL.0
+end_status (Member d) = MEMBER_FAULT.0
 
 -- no run was made: the images wait for another, or aren't built yet
 abbrev pub IsUnstarted : ℕ → Type 0
-IsUnstarted status = (status ≡ 2) ⊎ (status ≡ 14)
+IsUnstarted status = (status ≡ WAITING.0) ⊎ (status ≡ UNBUILT.0)
 
 -- the volume that an operation names
 abbrev pub volume_named : OpKind → ℕ

@@ -6,6 +6,7 @@ use Rattle.array_model.specs.Fits.{FitsEntry}
 use Rattle.array_model.specs.Kept.{ScriptState, asked_by}
 use Rattle.first_opening.specs.Opened.{Opened, IsOpening}
 use Rattle.stage.specs.declared.ends.DriveEnd.{DriveEnd}
+use Rattle.image_outside.specs.declared.status.TheConstants.Status.{REFUSED}
 use Rattle.image_outside.specs.Told.{BankTold}
 use Rattle.image_verdict.specs.declared.images.ImageRead.{ImageRead}
 use Rattle.image_verdict.specs.Images.{anchor_reads, HasReadAnchors, IsFoundOn}
@@ -30,7 +31,7 @@ pub record LeavesAbsent (script : ScriptState) (bank : BankTold) (lines : List �
   pub reads : HasReadAnchors bank images
   pub started : IsStarted images
   pub lines_are : lines ≡ absent_volume_line
-  pub status_is : status ≡ 3
+  pub status_is : status ≡ REFUSED.0
 
 -- The disks of a bank, which hold a container, whose newest block was read of the first image. Where the bank tells
 -- both what it held and its log, the contents are those that it told.

@@ -4,6 +4,7 @@ use Rattle.std.specs.List.{flat_map}
 use Rattle.std.specs.Fmt.{decimal}
 use Rattle.units.specs.declared.disk.Serial.{Serial}
 use Rattle.imsm_text.specs.Text.{hex_number, line_feed, serial_text}
+use Rattle.image_outside.specs.declared.status.TheConstants.Status.{DONE, UNBUILT, WAITING}
 use Rattle.image_verdict.specs.declared.report.Report.{Report}
 use Rattle.image_verdict.specs.declared.report.Report.TheVariants.{Unbuilt, Waiting, Started}
 
@@ -35,9 +36,9 @@ report_text (Started family generation present) = started_text family generation
 
 -- the status of a report
 abbrev pub report_status : Report → ℕ
-report_status (Unbuilt s) = 14
-report_status (Waiting family generation missing) = 2
-report_status (Started family generation present) = 0
+report_status (Unbuilt s) = UNBUILT.0
+report_status (Waiting family generation missing) = WAITING.0
+report_status (Started family generation present) = DONE.0
 
 -- the report says that the volume starts
 abbrev pub starts : Report → Bool
