@@ -2,26 +2,26 @@
 #![tactic(auto)]
 
 mod block;
-mod desk;
 mod fault;
 mod image;
 mod print;
 mod setting;
+mod workspace;
 
-use desk::Desk;
 use fault::Fault;
 use std::io;
 use std::io::{BufRead, BufReader, BufWriter, Write};
 use std::process::ExitCode;
+use workspace::Workspace;
 
 /// Does what each line says. The line that isn't understood is printed.
 fn play<R: Input + Print + Eprint + AllocGlobal>(rt: &R) -> Result<(), Fault> {
     let alloc = rt.alloc();
     let mut out = BufWriter::new(alloc, io::writer(rt))?;
-    let mut desk = Desk::new(alloc);
+    let mut workspace = Workspace::new(alloc);
     for line in BufReader::new(alloc, rt.reader())?.lines(alloc) {
         let line = line?;
-        if let Err(fault) = desk.take(line.as_str(), &mut out) {
+        if let Err(fault) = workspace.take(line.as_str(), &mut out) {
             eprintln!(rt; "{line}")?;
             return Err(fault);
         }

@@ -14,7 +14,7 @@ use units::Sector;
 type Images = BTreeMap<String, Vec<Sector>>;
 
 #[derive(Drop)]
-pub struct Desk {
+pub struct Workspace {
     alloc: Global,
     blocks: Blocks,
     images: Images,
@@ -35,9 +35,9 @@ fn file_of(word: &String) -> Option<&str> {
     Some(file)
 }
 
-impl Desk {
-    pub fn new(alloc: Global) -> Desk {
-        Desk {
+impl Workspace {
+    pub fn new(alloc: Global) -> Workspace {
+        Workspace {
             alloc,
             blocks: Blocks::new(alloc),
             images: BTreeMap::new(alloc),
