@@ -1,5 +1,6 @@
 -- A metadata block as it lies on a disk, and the words of it that the laws use. The laws take any words; what they
--- mean on the bytes of a block stands in Meaning.
+-- mean on the bytes of a block stands in Meaning. Source: imsm_super and what it holds, of super-intel.c; which words
+-- the laws ask for is this project's own.
 use Rattle.std.specs.Prelude.{ℕ, ◌==◌, ◌&&◌, Bool, true, false, List, [], ◌∷◌, length, Option, Some, None, if◌then◌else◌}
 use Rattle.std.specs.Str.{bytes_eq}
 use Rattle.units.specs.declared.disk.Sector.{Sector}

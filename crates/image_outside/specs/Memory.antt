@@ -1,4 +1,4 @@
--- What contracts see of the outside in memory.
+-- What contracts see of the outside in memory. Source: this project's own.
 use Rattle.std.specs.Prelude.{ℕ, ◌-◌, ◌==◌, ◌&&◌, ◌||◌, nat_lt, Bool, List, [], ◌∷◌, ◌++◌, length, map, take, drop, slice_index, if◌then◌else◌, Option, Some, None, String, string_bytes}
 use Rattle.std.specs.List.{list_any, find}
 use Rattle.std.specs.Str.{bytes_eq}

@@ -1,4 +1,4 @@
--- Commands as the code holds them.
+-- Commands as the code holds them. Source: this project's own.
 use Rattle.std.specs.Prelude.{◌≡◌, ℕ, ◌==◌, Bool, true, List, ◌∷◌, ◌++◌, map, IfSome}
 use Rattle.image_words.specs.declared.words.ImageArg.{ImageArg}
 use Rattle.image_words.specs.declared.verbs.Verb.{Verb}

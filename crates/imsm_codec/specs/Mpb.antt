@@ -1,4 +1,5 @@
--- The bytes of a view of a metadata block, and its parts: the one block that the bytes spell.
+-- The bytes of a view of a metadata block, and its parts: the one block that the bytes spell. Source: this project's
+-- own, over the parts that imsm_base takes from super-intel.c.
 use Rattle.std.specs.Prelude.{ℕ, List, [], slice_index_or}
 use Rattle.imsm_base.specs.Fields.{Part}
 use Rattle.imsm_base.specs.Layout.{Block, Volume, Map}

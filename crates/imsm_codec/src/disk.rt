@@ -13,7 +13,7 @@ use crate::fault::MpbFault;
 use imsm_base::get_u32;
 use units::HEADER_BYTES;
 
-/// Bytes of a disk record.
+/// Bytes of a disk record (`imsm_disk` of super-intel.c).
 pub const DISK_BYTES: usize = 48;
 
 /// The bytes from a disk's record on.

@@ -9,10 +9,10 @@ use crate::disk::DISK_BYTES;
 use crate::fault::MpbFault;
 use units::HEADER_BYTES;
 
-/// Bytes of a volume's record and state, which its maps stand behind.
+/// Bytes of a volume's record and state, which its maps stand behind (`imsm_dev` of super-intel.c up to its map).
 pub const VOLUME_BYTES: usize = 112;
 
-/// Bytes of a map without its entries.
+/// Bytes of a map without its entries (`imsm_map` of super-intel.c up to `disk_ord_tbl`).
 pub const MAP_BYTES: usize = 48;
 
 /// How many bytes the map takes that these bytes begin with.

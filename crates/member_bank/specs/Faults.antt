@@ -1,4 +1,4 @@
--- Counts of faults. A count may stand still at its last value, 2 ^ 64 - 1.
+-- Counts of faults. A count may stand still at its last value, 2 ^ 64 - 1. Source: this project's own.
 use Rattle.std.specs.Prelude.{ℕ, ◌+◌, ◌-◌, ◌^◌, ◌≤◌, ◌==◌, min, Bool, if◌then◌else◌, List, slice_set, slice_index, Result, OnErr}
 
 -- the count rose, or stands at its last value

@@ -1,4 +1,5 @@
--- What a bank tells, before and after a call. A bank may stop telling, and never begins anew.
+-- What a bank tells, before and after a call. A bank may stop telling, and never begins anew. Source: this project's
+-- own.
 use Rattle.std.specs.Prelude.{◌≡◌, ℕ, ◌≤◌, Bool, true, List, [], ◌∷◌, ◌++◌, length, Option, Some, None, ⊤}
 use Rattle.units.specs.declared.disk.Sector.{Sector}
 use Rattle.device_log.specs.Log.{Call, Write}

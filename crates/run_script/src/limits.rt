@@ -9,13 +9,13 @@ use crate::fault::{LimitKind, ScriptFault};
 use crate::order::Order;
 use array_model::{Op, OpKind, Script, Turn};
 
-/// So many operations, and no more.
+/// So many operations, and no more. The number is this project's own.
 pub const MAX_OPS: usize = 65_536;
 
-/// So many turns, and no more.
+/// So many turns, and no more. The number is this project's own.
 pub const MAX_TURNS: u64 = 1_048_576;
 
-/// The highest number of a client.
+/// The highest number of a client. It is this project's own.
 pub const MAX_CLIENT: u64 = 15;
 
 fn client_of(client: u64) -> Result<u8, ScriptFault>

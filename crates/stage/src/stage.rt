@@ -28,7 +28,7 @@ use std::alloc::Global;
 use std::marker::Model;
 use units::{DiskNo, Sector};
 
-/// As many calls a run makes at most.
+/// As many calls a run makes at most. The number is this project's own.
 pub const MAX_CALLS: u64 = 1 << 48;
 
 /// A bank, and a run over it: the plan, the newest block's sector as it was read, where the run stands, how many device
