@@ -210,17 +210,20 @@ IsAnswerTo start front (Some (Whole v)) answer = WholeAnswer answer
 
 -- THE LAW
 
+-- the volume is read-auto or clean: the next write to it makes it write-pending
+abbrev pub AwaitsWrite : Start → List Op → List Entry → ℕ → Type 0
+AwaitsWrite start ops front v = IsTold start ops front v ToldReadAuto ⊎ IsTold start ops front v ToldClean
+
 -- The cause of an entry behind a front of the journal. A round begins where one is due and none goes on, with the next
--- generation, and the round that goes on ends. A volume is write-pending right behind the submit of a write to it. Ready and active come where the last round has ended, the states follow one another, and
--- operations are submitted once their volume is ready; the form of the journal and the order of answers say more of them. Entries of
--- failures, passes, updates and takeovers have no cause today: a failed call ends the run, and there are none of the
--- others.
+-- generation, and the round that goes on ends. A volume is write-pending right behind the submit of a write to it.
+-- Ready and active come where the last round has ended, the states follow one another, and operations are submitted
+-- once their volume is ready; the form of the journal and the order of answers say more of them. Entries of failures,
+-- passes, updates and takeovers have no cause today: a failed call ends the run, and there are none of the others.
 abbrev pub IsCaused : Start → List Op → List Entry → Event → Type 0
 IsCaused start ops front (Begin g) = IsDue start ops front × (g ≡ note_of start front + 1)
 IsCaused start ops front (End g) = course_of front ≡ GoesOn g
 IsCaused start ops front (Ready v) = IsTold start ops front v.0 ToldClosed × (course_of front ≡ Over)
-IsCaused start ops front (Pending v) =
-    (IsTold start ops front v.0 ToldReadAuto ⊎ IsTold start ops front v.0 ToldClean) × (is_woken start ops front v.0 ≡ true)
+IsCaused start ops front (Pending v) = AwaitsWrite start ops front v.0 × (is_woken start ops front v.0 ≡ true)
 IsCaused start ops front (Active v) = IsTold start ops front v.0 ToldPending × (course_of front ≡ Over)
 IsCaused start ops front (Idle v) = IsTold start ops front v.0 ToldActive × AreAnswered start ops front v.0
 IsCaused start ops front (Clean v) = IsTold start ops front v.0 ToldIdle

@@ -16,9 +16,9 @@ pub fn example_of_the_journal_form()
     ensures falls { IsJournal small_start the_script 17 falling_journal → ⊥ }
 {}
 
-/// Each round of one write and one read is durable on both members when it ends. A round whose block was written to one
-/// member alone isn't, nor is one whose last sync failed. Where the blocks of a round differ, one isn't the round's, also
-/// if the round never ends.
+/// Each round of one write and one read is durable on both members when it ends. A round whose block was written to
+/// one member alone isn't, nor is one whose last sync failed. Where the blocks of a round differ, one isn't the
+/// round's, also if the round never ends.
 pub fn example_of_the_rounds()
     ensures meets { EndsOnWorking small_start worked_log worked_journal }
     ensures unspread { EndsOnWorking small_start unspread_log worked_journal → ⊥ }
@@ -60,9 +60,8 @@ pub fn example_of_the_row_calls()
 {}
 
 /// Each entry of one write and one read has its cause. A round that skips generations, or that nothing makes due, has
-/// none, nor has a fault today, a
-/// sector of the volume that is said to lie past its end, a read that is done without a value, a write before the volume
-/// is ready, or a volume that is active while its round goes on.
+/// none, nor has a fault today, a sector of the volume that is said to lie past its end, a read that is done without a
+/// value, a write before the volume is ready, or a volume that is active while its round goes on.
 pub fn example_of_the_causes()
     ensures meets { AreCaused small_start write_and_read worked_journal }
     ensures needless { AreCaused small_start write_and_read needless_journal → ⊥ }
