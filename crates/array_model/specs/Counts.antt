@@ -1,7 +1,8 @@
 -- How often each kind of entry comes in a journal, and what stands before it. Source: this project's own; the units of
--- a checkpoint are those of super-intel.c (curr_migr_unit), of 128 rows here.
+-- a checkpoint are those of super-intel.c (curr_migr_unit).
 use Rattle.std.specs.Prelude.{◌≡◌, ℕ, zero, suc, ◌+◌, ◌*◌, ◌/◌, ◌%◌, ◌<◌, ◌≤◌, ◌==◌, ◌||◌, ◌&&◌, Bool, true, List, [], ◌∷◌, length, Option, Some, None, is_some, IfSome, if◌then◌else◌, ⊤, ◌⊎◌}
 use Rattle.std.specs.List.{list_any, last_or, range_with_len}
+use Rattle.units.specs.declared.bounds.TheConstants.{UNIT_ROWS}
 use Rattle.array_model.specs.declared.script.Op.{Op}
 use Rattle.array_model.specs.declared.journal.Entry.{Entry}
 use Rattle.array_model.specs.declared.journal.Event.{Event}
@@ -25,7 +26,7 @@ PendingAfter ops front stamp _ = ⊤
 
 -- the first unit of the volume's last pass
 abbrev pub first_at : ℕ → Option ℕ → Event → Option ℕ
-first_at v first (Pass w row) = if w.0 == v then Some (row / 128) else first
+first_at v first (Pass w row) = if w.0 == v then Some (row / UNIT_ROWS) else first
 first_at v first _ = first
 
 abbrev pub first_from : ℕ → Option ℕ → List Entry → Option ℕ
@@ -44,7 +45,7 @@ point_from v last [] = last
 point_from v last (e ∷ es) = point_from v (point_at v last e.event) es
 
 pub record IsPoint (rows first : ℕ) (last : Option ℕ) (unit : ℕ) : Type 0 where
-  pub below : 128 * unit < rows
+  pub below : UNIT_ROWS * unit < rows
   pub since : first ≤ unit
   pub step : (unit % 8 ≡ 0) ⊎ (unit ≡ first)
   pub rises : IfSome last (λ u. u < unit)

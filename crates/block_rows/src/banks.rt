@@ -3,7 +3,10 @@ use crate::row::Row;
 use member_bank::{FailAt, LogRoom, MemBank, MemDisk};
 use std::alloc::{AllocError, Global};
 use std::io;
-use units::{SECTOR_BYTES, Sector};
+use units::{DiskNo, SECTOR_BYTES, Sector};
+
+/// The first disk of a bank.
+pub(crate) const FIRST: DiskNo = DiskNo(0);
 
 /// The room of a bank's log, which most rows pass: what a bank does is the same behind it.
 const ROOM: LogRoom = LogRoom {

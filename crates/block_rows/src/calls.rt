@@ -1,12 +1,10 @@
 //! Rows of device calls, on disks in memory and on a file.
-use crate::banks::{Setting, bank_of};
+use crate::banks::{FIRST, Setting, bank_of};
 use crate::row::Row;
 use member_bank::{Bank, FileBank};
 use std::fs::{File, OpenOptions};
 use std::{fs, io};
 use units::{DiskNo, Sector, Serial};
-
-const FIRST: DiskNo = DiskNo(0);
 
 /// What a disk's sectors are before a call reads them.
 const UNREAD: u8 = 0xEE;

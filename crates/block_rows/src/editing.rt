@@ -10,10 +10,7 @@ use imsm_buffer::MpbBuf;
 use imsm_codec::check;
 use std::alloc::Global;
 use std::io;
-use units::{MAX_BLOCK_BYTES, Slot, VolNo};
-
-/// The most sectors of a block.
-const MAX_SECTORS: u8 = 16;
+use units::{MAX_BLOCK_BYTES, MAX_BLOCK_SECTORS, Slot, VolNo};
 
 fn has_record(book: &MpbBuf, i: u8) -> bool
     ensures { IsTrue result → i < disk_count_of (parts_of book.now) }
@@ -64,7 +61,7 @@ pub(crate) fn open_book(alloc: Global, row: &mut Row<'_>, bytes: &[u8]) -> Optio
 /// A new block in room for so many sectors.
 pub(crate) fn new_book(alloc: Global, row: &mut Row<'_>) -> Option<MpbBuf> {
     let sectors = row.number_of_8();
-    if sectors == 0 || sectors > MAX_SECTORS {
+    if sectors == 0 || sectors > MAX_BLOCK_SECTORS {
         return None;
     }
     MpbBuf::new(alloc, sectors).ok()

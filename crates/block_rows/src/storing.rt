@@ -2,29 +2,24 @@
 ghost use Rattle.std.specs.Prelude.{◌<◌, ◌≤◌, length};
 ghost use Rattle.member_bank.specs.Contents.{sizes_of};
 
-use crate::banks::{Setting, bank_of};
+use crate::banks::{FIRST, Setting, bank_of};
 use imsm_buffer::MpbBuf;
 use imsm_codec::{MpbRef, check};
 use member_bank::{Bank, Failed, MemBank};
 use mpb_store::{Found, Step, WriteSteps, found, sectors_of};
 use std::alloc::{AllocError, Global};
 use std::io;
-use units::{DiskNo, HEADER_BYTES, MAX_BLOCK_BYTES, MAX_WRITE_SECTORS, METADATA_SECTORS, Sector};
-
-const FIRST: DiskNo = DiskNo(0);
-
-/// Sectors of the largest block.
-const MAX_SECTORS: u8 = 16;
-
-/// The most bytes of a block.
-const MAX_BYTES: u16 = 8192;
+use units::{
+    DiskNo, HEADER_BYTES, MAX_BLOCK_BYTES, MAX_BLOCK_SECTORS, MAX_WRITE_SECTORS, METADATA_SECTORS,
+    Sector,
+};
 
 /// Prints what is found on the first disk of a bank, and whether a whole block is the front of these bytes.
 fn print_found(rt: &HostRuntime, bank: &mut MemBank, bytes: &[u8]) -> io::Result<()> {
     if bank.disks() == 0 {
         return println!(rt; "no disk");
     }
-    let Ok(mut into) = MpbBuf::new(rt.alloc(), MAX_SECTORS) else {
+    let Ok(mut into) = MpbBuf::new(rt.alloc(), MAX_BLOCK_SECTORS) else {
         return println!(rt; "memory");
     };
     let answer = found(bank, FIRST, &mut into);
@@ -113,7 +108,7 @@ fn write_steps(rt: &HostRuntime, bank: &mut MemBank, written: &MpbBuf) -> io::Re
 
 /// The block of these bytes, if they begin with a whole one.
 fn copy_of(alloc: Global, mpb: &MpbRef<'_>) -> Result<MpbBuf, AllocError> {
-    MpbBuf::from_ref(alloc, mpb, MAX_BYTES).map_err(|_| AllocError)
+    MpbBuf::from_ref(alloc, mpb, MAX_BLOCK_BYTES as u16).map_err(|_| AllocError)
 }
 
 /// Writes the block at hand to the disk that is held, and prints what is found there before and after.

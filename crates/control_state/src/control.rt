@@ -16,10 +16,7 @@ use crate::plan::Plan;
 use crate::round::{Phase, Round};
 use crate::state::{Move, State, VOLUME, decide};
 use array_model::{Answer, Event};
-use units::DiskNo;
-
-/// How many clients there are.
-pub const CLIENTS: usize = 16;
+use units::{CLIENTS, DiskNo};
 
 /// What a turn enters.
 #[derive(Clone, Copy, Debug, PartialEq, Eq)]

@@ -18,7 +18,7 @@ mod submit;
 
 pub use book::Book;
 pub use client::{Client, has_write, is_locked, next_op};
-pub use control::{CLIENTS, Control, Events};
+pub use control::{Control, Events};
 pub use job::{JobStep, Need, Work};
 pub use plan::Plan;
 pub use round::{Ask, Phase, Round, Step};

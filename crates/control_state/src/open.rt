@@ -13,13 +13,13 @@ ghost use Rattle.control_state.specs.Begins.{begins_at};
 
 use crate::book::Book;
 use crate::client::Client;
-use crate::control::{CLIENTS, Control};
+use crate::control::Control;
 use crate::round::{Phase, Round};
 use crate::state::State;
 use imsm_buffer::{CodecFault, MpbBuf};
 use imsm_codec::MpbRef;
 use std::alloc::Global;
-use units::{SECTOR_BYTES, Sector};
+use units::{CLIENTS, SECTOR_BYTES, Sector};
 
 impl Book {
     /// A copy of a whole block of one sector, with the sector that it was read from.

@@ -12,12 +12,13 @@ ghost use Rattle.control_state.specs.Controls.{control_of};
 ghost use Rattle.control_state.specs.Still.{is_silent, turn_does_nothing, is_still};
 
 use crate::client::{has_write, next_op};
-use crate::control::{CLIENTS, Control};
+use crate::control::Control;
 use crate::job::Need;
 use crate::plan::Plan;
 use crate::round::Phase;
 use crate::state::{Move, State, decide};
 use array_model::OpKind;
+use units::CLIENTS;
 
 impl Control {
     /// Whether what the monitor does enters nothing.

@@ -1,12 +1,13 @@
 -- What a metadata block says, as lines. Source: the fields are those of super-intel.c; the lines are this project's
 -- own.
-use Rattle.std.specs.Prelude.{ℕ, ◌%◌, ◌^◌, ◌==◌, if◌then◌else◌, List, [], ◌∷◌, ◌++◌, codes}
+use Rattle.std.specs.Prelude.{ℕ, ◌%◌, ◌==◌, if◌then◌else◌, List, [], ◌∷◌, ◌++◌, codes}
 use Rattle.std.specs.Int.{bit_at}
 use Rattle.std.specs.List.{flat_map, enumerate_from}
 use Rattle.std.specs.Fmt.{decimal}
 use Rattle.imsm_base.specs.Fields.{Part}
 use Rattle.imsm_base.specs.Layout.{Block, Volume, Map, family_of, orig_family_of, generation_of, size_of, attributes_of, checksum_of, serial_of, total_blocks_of, status_of, name_of, volume_size_of, migration_type_of, unit_of, checkpoint_of, level_byte_of, member_count_of, map_state_of, strip_of, pba_of, blocks_per_member_of, orders_of}
 use Rattle.imsm_base.specs.Volumes.{has_pass, is_dirty}
+use Rattle.imsm_base.specs.declared.values.TheConstants.{INDEX_RANGE}
 use Rattle.imsm_text.specs.Text.{hex_number, name_text, line}
 
 -- the lines of each element, which is told its number, from 0
@@ -34,7 +35,7 @@ disk_line i d =
 -- an entry of a map: the low 24 bits are the index of a disk's record, and bit 24 says that the slot is out of sync
 abbrev pub slot_line : ℕ → ℕ → List ℕ
 slot_line slot order =
-    line (codes "slot") (decimal slot ∷ decimal (order % 2 ^ 24)
+    line (codes "slot") (decimal slot ∷ decimal (order % INDEX_RANGE)
     ∷ (if bit_at order 24 == 1 then codes "out" else codes "in") ∷ [])
 
 abbrev pub map_line : ℕ → Map → List ℕ

@@ -6,13 +6,11 @@ ghost use Rattle.imsm_base.specs.Volumes.{order_at};
 ghost use Rattle.imsm_codec.specs.Mpb.{block_of, volume_at, map_at};
 ghost use Rattle.examine.specs.Lines.{numbered, slot_line, map_line, map_lines};
 
+use imsm_base::INDEX_RANGE;
 use imsm_codec::MpbRef;
 use imsm_text::{Word, push_line};
 use std::alloc::AllocError;
 use units::{Slot, VolNo};
-
-/// The low bits of a slot's entry, the index of its disk's record.
-const INDEX_RANGE: u32 = 1 << 24;
 
 /// Whether an entry says that its slot is out of sync, as a word.
 fn sync_word(order: u32) -> &'static [u8]

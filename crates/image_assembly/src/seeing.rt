@@ -13,10 +13,7 @@ use imsm_buffer::MpbBuf;
 use member_bank::Bank;
 use mpb_store::{Found, found};
 use std::alloc::{AllocError, Global};
-use units::DiskNo;
-
-/// Sectors of the largest block.
-const MAX_BLOCK_SECTORS: u8 = 16;
+use units::{DiskNo, MAX_BLOCK_SECTORS};
 
 /// A copy of a block, in room of its own size.
 fn copy_of(alloc: Global, block: &MpbBuf) -> Result<MpbBuf, AllocError>

@@ -15,11 +15,9 @@ ghost use Rattle.image_start.specs.Openings.{opened_on};
 
 use arrayvec::ArrayVec;
 use image_verdict::ImageRead;
+use imsm_base::INDEX_RANGE;
 use imsm_codec::MpbRef;
 use units::{DiskNo, MAX_DISKS, Serial, Slot, VolNo};
-
-/// The low bits of a slot's entry, the index of its disk's record.
-const INDEX_RANGE: u32 = 1 << 24;
 
 /// The disks that the block expects: all of them, since each has a record, and each record is expected.
 pub(crate) fn targets_of(images: &[ImageRead]) -> ArrayVec<DiskNo, MAX_DISKS>

@@ -1,13 +1,14 @@
 -- The words of a volume. Each reads fields alone.
 -- Source: imsm_vol, imsm_map and the helpers on them in super-intel.c, and the kernel's md.rst. Which values are
 -- supported, when a checkpoint is honoured and what counts as unfinished are this project's own.
-use Rattle.std.specs.Prelude.{ℕ, ◌<◌, ◌≤◌, ◌+◌, ◌-◌, ◌*◌, ◌/◌, ◌%◌, ◌^◌, ◌==◌, ◌&&◌, ◌||◌, nat_lt, nat_le, max, not, Bool, false, if◌then◌else◌, List, [], ◌∷◌, map, find, count_by, take, drop, length, slice_get, slice_index, slice_index_or, Option, Some, None, is_none}
+use Rattle.std.specs.Prelude.{ℕ, ◌<◌, ◌≤◌, ◌+◌, ◌-◌, ◌*◌, ◌/◌, ◌%◌, ◌==◌, ◌&&◌, ◌||◌, nat_lt, nat_le, max, not, Bool, false, if◌then◌else◌, List, [], ◌∷◌, map, find, count_by, take, drop, length, slice_get, slice_index, slice_index_or, Option, Some, None, is_none}
 use Rattle.std.specs.Option.{option_map, option_map_or}
 use Rattle.std.specs.List.{list_any, list_all, range_with_len}
 use Rattle.std.specs.Int.{bit_at}
 use Rattle.units.specs.declared.volume.Level.{Level}
 use Rattle.units.specs.declared.volume.Level.TheVariants.{One, Five, Ten}
-use Rattle.units.specs.declared.bounds.TheConstants.{METADATA_SECTORS}
+use Rattle.units.specs.declared.bounds.TheConstants.{MAX_VOLUME_SECTORS, METADATA_SECTORS, UNIT_ROWS}
+use Rattle.imsm_base.specs.declared.values.TheConstants.{CHECKPOINT_MARK, INDEX_RANGE}
 use Rattle.imsm_base.specs.Layout.{Block, Volume, Map, disk_count_of, total_blocks_of, volume_size_of, policy_of, unit_of, checkpoint_of, migration_state_of, migration_type_of, dirty_byte_of, pba_of, blocks_per_member_of, strip_of, map_state_of, level_byte_of, member_count_of, orders_of}
 use Rattle.imsm_base.specs.Whole.{is_expected}
 use Rattle.units.specs.Levels.{suffices, rows_of}
@@ -29,7 +30,7 @@ order_at slot m = slice_index (orders_of m) slot
 
 abbrev pub member : Volume → ℕ → Member
 member v slot = record {
-  index = order_at slot (first_map v) % 2 ^ 24;
+  index = order_at slot (first_map v) % INDEX_RANGE;
   is_out = list_any (λ m. bit_at (order_at slot m) 24 == 1) v.maps;
 }
 
@@ -79,14 +80,14 @@ can_run b v = suffices (volume_level v) (map (is_in_sync b) (members v)) && not 
 abbrev pub volume_rows : Volume → ℕ
 volume_rows v = rows_of (volume_level v) (member_count_of (first_map v)) (volume_size_of v) (strip_of (first_map v))
 
--- a checkpoint counts 128 rows; it is honoured where this project's mark stands and the volume is clean
+-- a checkpoint counts units; it is honoured where this project's mark stands and the volume is clean
 abbrev pub is_honoured : Volume → Bool
-is_honoured v = checkpoint_of v == 0x494d0001 && not (is_dirty v)
+is_honoured v = checkpoint_of v == CHECKPOINT_MARK && not (is_dirty v)
 
 abbrev pub pass_start : Volume → ℕ
 pass_start v =
-    if has_pass v && not (migration_type_of v == 2) && is_honoured v && nat_le (unit_of v * 128) (volume_rows v)
-    then unit_of v * 128 else 0
+    if has_pass v && not (migration_type_of v == 2) && is_honoured v && nat_le (unit_of v * UNIT_ROWS) (volume_rows v)
+    then unit_of v * UNIT_ROWS else 0
 
 abbrev pub wants_pass : Block → Volume → Bool
 wants_pass b v = is_unfinished v || list_any (λ m. m.is_out && is_expected_at b m.index) (members v)
@@ -130,7 +131,7 @@ is_level_one v = level_byte_of (first_map v) == 1 && member_count_of (first_map 
 abbrev pub has_geometry : Block → Volume → Bool
 has_geometry b v =
     let m = first_map v in
-    nat_le 1 (volume_size_of v) && nat_le (volume_size_of v) (2 ^ 40)
+    nat_le 1 (volume_size_of v) && nat_le (volume_size_of v) MAX_VOLUME_SECTORS
     && (is_level_one v || not (strip_of m == 0))
     && nat_le (volume_rows v) (blocks_per_member_of m)
     && list_all (has_sectors b (pba_of m + volume_rows v + METADATA_SECTORS)) (members v)

@@ -9,12 +9,9 @@ ghost use Rattle.imsm_buffer.specs.Buffer.{parts_of, with_block};
 use crate::buffer::MpbBuf;
 use crate::bytes::{put_name, put_pass, put_u8};
 use crate::places::{disk_place, map_place, volume_place};
-use imsm_base::put_u32;
+use imsm_base::{CHECKPOINT_MARK, put_u32};
 use imsm_codec::{MAP_BYTES, get_u8};
 use units::{Slot, VolNo};
-
-/// The mark of a checkpoint that this project writes (`checkpoint_id`).
-const CHECKPOINT: u32 = 0x494D_0001;
 
 impl MpbBuf {
     /// Sets `generation_num`.
@@ -75,7 +72,7 @@ impl MpbBuf {
         ensures block { parts_of self.new ≡ block_with_pass (parts_of self.old) v.0 kind unit }
     {
         let at = volume_place(&self.bytes, v.0);
-        put_pass(&mut self.bytes, at, kind, unit, CHECKPOINT);
+        put_pass(&mut self.bytes, at, kind, unit, CHECKPOINT_MARK);
     }
 
     /// Sets a volume's name.

@@ -11,6 +11,7 @@ use crate::buffer::MpbBuf;
 use crate::bytes::put_u8;
 use crate::moves::take_out;
 use crate::places::disk_place;
+use imsm_base::INDEX_RANGE;
 use imsm_codec::{DISK_BYTES, get_u8};
 use units::{Slot, VolNo};
 
@@ -18,7 +19,7 @@ use units::{Slot, VolNo};
 fn lowered(ord: u32, i: u8) -> u32
     ensures { result ≡ lowered i ord }
 {
-    if ord % (1 << 24) > u32::from(i) {
+    if ord % INDEX_RANGE > u32::from(i) {
         ord - 1
     } else {
         ord

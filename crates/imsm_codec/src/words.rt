@@ -7,13 +7,8 @@ ghost use Rattle.imsm_base.specs.Volumes.{Member, first_map, member, members, is
 ghost use Rattle.imsm_codec.specs.Mpb.{block_of, volume_at};
 
 use crate::mpb::MpbRef;
-use units::{METADATA_SECTORS, Slot, VolNo};
-
-/// The low bits of a slot's entry, the index of its disk's record.
-const INDEX_RANGE: u32 = 1 << 24;
-
-/// The most sectors that a volume has.
-const MAX_VOLUME_SECTORS: u64 = 1 << 40;
+use imsm_base::INDEX_RANGE;
+use units::{MAX_VOLUME_SECTORS, METADATA_SECTORS, Slot, VolNo};
 
 /// Whether all of these tests hold.
 pub(crate) fn all_hold(tests: &[bool]) -> bool

@@ -5,7 +5,9 @@ use Rattle.std.specs.Option.{option_map_or}
 use Rattle.std.specs.List.{list_any}
 use Rattle.imsm_base.specs.Layout.{Block, Volume, member_count_of}
 use Rattle.imsm_base.specs.Volumes.{first_map, member}
+use Rattle.units.specs.declared.bounds.TheConstants.{UNIT_ROWS}
 use Rattle.units.specs.Levels.{suffices}
+use Rattle.imsm_base.specs.declared.values.TheConstants.{CHECKPOINT_MARK}
 use Rattle.imsm_base.specs.Volumes as word
 use Rattle.imsm_view.specs.declared.volume.Volume.{Volume as View}
 use Rattle.imsm_view.specs.declared.volume.SlotView.{SlotView}
@@ -33,11 +35,11 @@ can_run view = suffices (Some view.geometry.level) (map is_slot_in_sync view.slo
 -- is clean
 abbrev pub is_resumed : View → Bool
 is_resumed view =
-    option_map_or (λ t. not (t == 2)) view.pass false && (view.checkpoint == 0x494d0001 && not view.dirty)
+    option_map_or (λ t. not (t == 2)) view.pass false && (view.checkpoint == CHECKPOINT_MARK && not view.dirty)
 
 abbrev pub pass_start : View → ℕ
 pass_start view =
-    if is_resumed view && nat_le (view.unit * 128) view.geometry.rows then view.unit * 128 else 0
+    if is_resumed view && nat_le (view.unit * UNIT_ROWS) view.geometry.rows then view.unit * UNIT_ROWS else 0
 
 abbrev pub wants_pass : View → Bool
 wants_pass view = is_unfinished view || list_any (λ s. s.out && s.expected) view.slots.items

@@ -11,10 +11,7 @@ ghost use Rattle.imsm_view.specs.Views.{IsGeometry, has_room};
 
 use crate::slot::{slot_count, table_index};
 use imsm_codec::MpbRef;
-use units::{Geometry, Level, METADATA_SECTORS, Slot, VolNo};
-
-/// The most sectors that a volume has.
-const MAX_VOLUME_SECTORS: u64 = 1 << 40;
+use units::{Geometry, Level, MAX_VOLUME_SECTORS, METADATA_SECTORS, Slot, VolNo};
 
 /// How many strips of one stripe have data.
 fn data_members(level: Level, members: u8) -> u64

@@ -6,13 +6,8 @@ ghost use Rattle.units.specs.Levels.{suffices};
 ghost use Rattle.imsm_view.specs.Questions.{is_slot_in_sync, is_in_sync_at, is_resync, is_unfinished, is_degraded, can_run, is_resumed, pass_start, wants_pass};
 
 use crate::volume::{SlotView, Volume};
-use units::{Level, Slot};
-
-/// This project's mark of a checkpoint that a pass goes on from.
-const CHECKPOINT_MARK: u32 = 0x494D_0001;
-
-/// Rows that a unit of a checkpoint counts.
-const UNIT_ROWS: u64 = 128;
+use imsm_base::CHECKPOINT_MARK;
+use units::{Level, Slot, UNIT_ROWS};
 
 impl SlotView {
     /// Whether the slot's data are those of the volume.

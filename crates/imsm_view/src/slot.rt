@@ -9,11 +9,9 @@ ghost use Rattle.imsm_view.specs.Views.{slot_view};
 
 use crate::volume::SlotView;
 use arrayvec::ArrayVec;
+use imsm_base::INDEX_RANGE;
 use imsm_codec::MpbRef;
 use units::{MAX_MEMBERS, Slot, VolNo};
-
-/// The low bits of a slot's entry, the index of its disk's record.
-const INDEX_RANGE: u32 = 1 << 24;
 
 /// How many slots a volume has.
 #[tactic(auto, using(imsm_codec::proofs::Places::some_map))]

@@ -1,5 +1,6 @@
 -- What can be made over so many disks. Source: this project's own.
-use Rattle.std.specs.Prelude.{ℕ, ◌+◌, ◌*◌, ◌%◌, ◌^◌, ◌==◌, ◌&&◌, nat_le, Bool, true, Option, Some, None}
+use Rattle.std.specs.Prelude.{ℕ, ◌+◌, ◌*◌, ◌%◌, ◌==◌, ◌&&◌, nat_le, Bool, true, Option, Some, None}
+use Rattle.units.specs.declared.bounds.TheConstants.{MAX_VOLUME_SECTORS}
 use Rattle.units.specs.declared.volume.Level.{Level}
 use Rattle.units.specs.declared.volume.Level.TheVariants.{One, Five, Ten}
 use Rattle.units.specs.Levels.{data_members, rows_of}
@@ -8,7 +9,7 @@ use Rattle.new_container.specs.declared.volume.NewVolume.{NewVolume}
 
 -- a volume whose strip and size are in their ranges
 abbrev pub is_in_range : NewVolume → Bool
-is_in_range v = nat_le 1 v.strip && nat_le v.strip 65535 && nat_le 1 v.size && nat_le v.size (2 ^ 40)
+is_in_range v = nat_le 1 v.strip && nat_le v.strip 65535 && nat_le 1 v.size && nat_le v.size MAX_VOLUME_SECTORS
 
 -- the level takes so many disks
 abbrev pub takes : Level → ℕ → Bool

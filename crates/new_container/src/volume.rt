@@ -4,10 +4,7 @@ ghost use Rattle.units.specs.declared.volume.Level.{Level};
 ghost use Rattle.new_container.specs.Fits.{is_in_range, is_striped, rows_over, takes, volume_fits};
 
 use imsm_view::rows_of;
-use units::Level;
-
-/// The most sectors of a volume. The number is this project's own.
-const MAX_SIZE: u64 = 1 << 40;
+use units::{Level, MAX_VOLUME_SECTORS};
 
 /// A volume that is made: its level, and its strip and size in sectors.
 #[derive(Clone, Copy, Debug, PartialEq, Eq)]
@@ -42,7 +39,7 @@ impl NewVolume {
     fn is_in_range(self) -> bool
         ensures { result ≡ is_in_range self }
     {
-        1 <= self.strip && 1 <= self.size && self.size <= MAX_SIZE
+        1 <= self.strip && 1 <= self.size && self.size <= MAX_VOLUME_SECTORS
     }
 
     /// Whether the volume is whole stripes, where its level has stripes.

@@ -8,6 +8,7 @@ ghost use Rattle.run_script.specs.declared.fault.ScriptFault.TheVariants.{Memory
 use crate::fault::{LimitKind, ScriptFault};
 use crate::order::Order;
 use array_model::{Op, OpKind, Script, Turn};
+use units::CLIENTS;
 
 /// So many operations, and no more. The number is this project's own.
 pub const MAX_OPS: usize = 65_536;
@@ -15,8 +16,8 @@ pub const MAX_OPS: usize = 65_536;
 /// So many turns, and no more. The number is this project's own.
 pub const MAX_TURNS: u64 = 1_048_576;
 
-/// The highest number of a client. It is this project's own.
-pub const MAX_CLIENT: u64 = 15;
+/// The highest number of a client.
+pub const MAX_CLIENT: u64 = CLIENTS as u64 - 1;
 
 fn client_of(client: u64) -> Result<u8, ScriptFault>
     ensures ok { IfOk result (λ number. (number ≡ client) × (client_limit client ≡ None)) }

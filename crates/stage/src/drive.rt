@@ -10,9 +10,8 @@ use crate::ends::{Cycle, DriveEnd};
 use crate::stage::Stage;
 use crate::turned::Turned;
 use array_model::Turn;
-use control_state::CLIENTS;
 use member_bank::Bank;
-use units::VolNo;
+use units::{CLIENTS, VolNo};
 
 impl<B: Bank> Stage<B> {
     /// A turn of a script. The manager and a sync worker have nothing to do yet.

@@ -21,11 +21,24 @@ pub const HEADER_BYTES: usize = 216;
 /// The greatest size of a metadata block, in bytes.
 pub const MAX_BLOCK_BYTES: usize = 8192;
 
+/// Sectors of the largest metadata block.
+pub const MAX_BLOCK_SECTORS: u8 = 16;
+
 /// Sectors at the end of a disk that are kept for metadata.
 pub const METADATA_SECTORS: u64 = 18;
 
 /// The most sectors that one write takes.
 pub const MAX_WRITE_SECTORS: usize = 16;
+
+/// The most sectors of a volume.
+pub const MAX_VOLUME_SECTORS: u64 = 1 << 40;
+
+/// Rows of a unit, in which a block counts how far a pass has come (`curr_migr_unit` of super-intel.c). How many they
+/// are is this project's own.
+pub const UNIT_ROWS: u64 = 128;
+
+/// Clients of a run, by number from 0.
+pub const CLIENTS: usize = 16;
 
 /// A container of this generation or a higher one isn't started, so that a run never counts to the end.
 pub const FIRST_GENERATION_REFUSED: u32 = 0xFF00_0000;
