@@ -16,7 +16,7 @@ use Rattle.array_model.specs.Events.{AtEachFrom, up_to}
 use Rattle.array_model.specs.Moments.{EachCall}
 use Rattle.array_model.specs.AnswerLaw.{WholeAt, WholeFor, ReadsInSync, MayRead}
 use Rattle.array_model.proofs.Journals.{all-append, each_call}
-use Rattle.stage_machine.specs.Setting.{Setting, has}
+use Rattle.stage_machine.specs.Setting.{Setting, has_disk}
 use Rattle.stage_machine.specs.Opens.{StandsOnAll, IsFirstVolume}
 use Rattle.stage_machine.specs.States.{State, IsReadonly, IsReadAuto, IsClean, IsPending, IsActive, IsIdle, asked_events}
 use Rattle.stage_machine.specs.Jobs.{JobStep, Waiting, Writing, Syncing, Written, Got, Job, NoJob, Busy, Client, the_shape, is_write, is_write_kind, Need, NoNeed, Reads, Writes, Syncs, Answers, need_of, first_need, read_need, write_need, sync_need, after_write, after_sync}
@@ -51,7 +51,7 @@ abbrev pub Fits : Setting → Control → Type 0
 Fits S c = Each (λ k client. JobFits S client.job) c.clients
 
 pub fits_of : (S : Setting) (c : Control) (k i : ℕ) (left : List ℕ) (step : JobStep) → Fits S c → Has c k left (Busy i step) → KindFits S i step
-fits_of S c k i left step fits has = subst (λ (x : Client). JobFits S x.job) has (fits k)
+fits_of S c k i left step fits has_disk = subst (λ (x : Client). JobFits S x.job) has_disk (fits k)
 
 -- what a job that fits may need
 abbrev pub NeedFits : Setting → ℕ → Need → Type 0
@@ -98,7 +98,7 @@ need_fits S c k i step fits = at (is_held S c k i)
     at false = by step fits
 
 pub need_is : (S : Setting) (c : Control) (k i : ℕ) (left : List ℕ) (step : JobStep) (need : Need) → Fits S c → Has c k left (Busy i step) → need_now S c k i step ≡ need → NeedFits S i need
-need_is S c k i left step need fits has is = subst (NeedFits S i) is (need_fits S c k i step (fits_of S c k i left step fits has))
+need_is S c k i left step need fits has_disk is = subst (NeedFits S i) is (need_fits S c k i step (fits_of S c k i left step fits has_disk))
 
 after_write_fits : (S : Setting) (i : ℕ) (ds : List ℕ) → is_write S i ≡ true → KindFits S i (after_write S ds)
 after_write_fits S i [] h = h
@@ -219,7 +219,7 @@ pub reads_in_sync : (S : Setting) → StandsOnAll S → IsFirstVolume S → (log
 reads_in_sync S on volume log journal ours fine =
     each_call (λ before call. ReadsInSync S.start log journal before call.disk call.what) (IsFine S) (λ before call is. at before call.disk call.what is) 0 log fine
   where
-    may : (before d row : ℕ) → row < (the_shape S).size → has d S.members ≡ true → MayRead S.start log journal before d ((the_shape S).pba + row)
+    may : (before d row : ℕ) → row < (the_shape S).size → has_disk d S.members ≡ true → MayRead S.start log journal before d ((the_shape S).pba + row)
     may before d row below member = record {
       sound = none_faulty d (up_to before journal) (ours_up_to before journal ours);
       in_sync = λ m finished.

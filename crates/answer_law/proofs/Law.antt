@@ -14,12 +14,12 @@ use Rattle.array_model.specs.declared.journal.Answer.TheVariants.{Done, Value, P
 use Rattle.array_model.specs.Script.{kind_at, is_of_client}
 use Rattle.units.specs.Places.{anchor_place}
 use Rattle.array_model.specs.Blocks.{Laid}
-use Rattle.array_model.specs.Placement.{place_of}
+use Rattle.array_model.specs.Placement.{placement_of}
 use Rattle.array_model.specs.Events.{AtEachFrom, has as has_event, is_submit}
 use Rattle.array_model.specs.Moments.{AllBelow}
 use Rattle.array_model.specs.Content.{is_still_unsure}
 use Rattle.array_model.specs.AnswerLaw.{ValueAt, ValueOf, IsValue, IsGivenAt, IsGiven, submitted_from}
-use Rattle.stage_machine.specs.Setting.{Setting, has}
+use Rattle.stage_machine.specs.Setting.{Setting, has_disk}
 use Rattle.stage_machine.specs.Opens.{AsksFirst, IsFirstVolume}
 use Rattle.stage_machine.specs.States.{State, IsReadonly, IsReadAuto, IsClean, IsPending, IsActive, IsIdle, asked_events}
 use Rattle.stage_machine.specs.Jobs.{JobStep, Waiting, Written, Got, Job, NoJob, Busy, Client, client_at, the_shape, sector_in, row_at, row_in, value_at, is_write, holds, Need, NoNeed, Reads, Writes, Answers, after_write, after_sync}
@@ -36,7 +36,7 @@ use Rattle.answer_law.proofs.Values.{WrittenBut, StepVals, JobVals, writes_row, 
 -- CALM TURNS: no row is written, and no write is acknowledged as done
 
 pub record Calm (S : Setting) (log more : List Call) (new : List Entry) : Type 0 where
-  pub stood_same : (row d : ℕ) → row < (the_shape S).size → has d S.members ≡ true → stood S more d row ≡ stood S log d row
+  pub stood_same : (row d : ℕ) → row < (the_shape S).size → has_disk d S.members ≡ true → stood S more d row ≡ stood S log d row
   pub plain : Plain S new
 
 module _ (S : Setting) (volume : IsFirstVolume S) where
@@ -47,7 +47,7 @@ module _ (S : Setting) (volume : IsFirstVolume S) where
   calm_none : (log : List Call) (new : List Entry) → Plain S new → Calm S log log new
   calm_none log new plain = record { stood_same = λ row d below member. refl; plain = plain }
 
-  calm_call : (log : List Call) (e : ℕ) (what : What) (went : Bool) (new : List Entry) → ((row d : ℕ) → row < (the_shape S).size → has d S.members ≡ true → e ≡ d → Spares (at_row S row) what) → Plain S new
+  calm_call : (log : List Call) (e : ℕ) (what : What) (went : Bool) (new : List Entry) → ((row d : ℕ) → row < (the_shape S).size → has_disk d S.members ≡ true → e ≡ d → Spares (at_row S row) what) → Plain S new
       → Calm S log (log ++ call e what went ∷ []) new
   calm_call log e what went new spares plain = record {
     stood_same = λ row d below member. stood_spared S log e d row what went (spares row d below member);
@@ -100,7 +100,7 @@ module _ (S : Setting) (volume : IsFirstVolume S) where
 -- A SUBMIT OF ANOTHER CLIENT
 
 pub job_is : (c : Control) (k : ℕ) (left : List ℕ) (job : Job) → Has c k left job → job_of c.clients k ≡ job
-job_is c k left job has = ap (λ (x : Client). x.job) has
+job_is c k left job has_disk = ap (λ (x : Client). x.job) has_disk
 
 -- no other client's job is of an operation that client k submits
 pub not_submitted : (S : Setting) (c : Control) (k i : ℕ) (rest : List ℕ) → Mine S c → Has c k (i ∷ rest) NoJob → (j : ℕ) → j ≢ k → (m : ℕ) (step : JobStep) → job_of c.clients j ≡ Busy m step → (i == m) ≡ false
@@ -242,7 +242,7 @@ module _ (S : Setting) (asks : AsksFirst S) (volume : IsFirstVolume S) (log : Li
       a_write : is_write S i ≡ true
       a_write = fits_of S c k i left Written fits here
 
-      at : (row d : ℕ) → row < (the_shape S).size → NoWriter S (slice_set c.clients k (record { left = left; job = NoJob })) row → has d S.members ≡ true
+      at : (row d : ℕ) → row < (the_shape S).size → NoWriter S (slice_set c.clients k (record { left = left; job = NoJob })) row → has_disk d S.members ≡ true
           → unsure S (journal ++ record { stamp = n; event = Ack i Done } ∷ []) row ≡ false
           → (b : Bool) → (row_at S i == row) ≡ b → stood S log d row ≡ con S (journal ++ record { stamp = n; event = Ack i Done } ∷ []) row
       at row d below no_writer member sure true is =
@@ -266,7 +266,7 @@ module _ (S : Setting) (asks : AsksFirst S) (volume : IsFirstVolume S) (log : Li
         (omega (arith, length-append log (call d (Read (at_row S (row_at S i))) true ∷ []))) gave,
   )
     where
-      member : has d S.members ≡ true
+      member : has_disk d S.members ≡ true
       member = subst (NeedIn S.members) need (need_in S c k i step (of_job S c k i left step mine here).inside)
 
       waits : step ≡ Waiting
@@ -291,7 +291,7 @@ module _ (S : Setting) (asks : AsksFirst S) (volume : IsFirstVolume S) (log : Li
   same_none : (new : List Entry) → Plain S new → ((i : ℕ) → has_event (is_submit i) new ≡ false) → Vals S log (journal ++ new) c.clients
   same_none new plain none = calm_same S volume log journal c mine old None new (calm_none S volume log new plain) none
 
-  same_call : (e : ℕ) (what : What) (went : Bool) (new : List Entry) → ((row d : ℕ) → row < (the_shape S).size → has d S.members ≡ true → e ≡ d → Spares (at_row S row) what)
+  same_call : (e : ℕ) (what : What) (went : Bool) (new : List Entry) → ((row d : ℕ) → row < (the_shape S).size → has_disk d S.members ≡ true → e ≡ d → Spares (at_row S row) what)
       → Plain S new → ((i : ℕ) → has_event (is_submit i) new ≡ false) → Vals S (log ++ call e what went ∷ []) (journal ++ new) c.clients
   same_call e what went new spares plain none = calm_same S volume log journal c mine old (Some (call e what went)) new (calm_call S volume log e what went new spares plain) none
 
@@ -304,7 +304,7 @@ module _ (S : Setting) (asks : AsksFirst S) (volume : IsFirstVolume S) (log : Li
       vals
       (λ row h. ap (writes_row S row) (job_is c k (i ∷ rest) NoJob here))
 
-  anchor_away : (m : Laid) (e : ℕ) (row d : ℕ) → row < (the_shape S).size → has d S.members ≡ true → e ≡ d → Spares (at_row S row) (Write (anchor_place (S.start.disks.sectors e)) (m.anchor ∷ []) 1)
+  anchor_away : (m : Laid) (e : ℕ) (row d : ℕ) → row < (the_shape S).size → has_disk d S.members ≡ true → e ≡ d → Spares (at_row S row) (Write (anchor_place (S.start.disks.sectors e)) (m.anchor ∷ []) 1)
   anchor_away m e row d below member same =
       subst (λ z. Spares (at_row S row) (Write (anchor_place (S.start.disks.sectors z)) (m.anchor ∷ []) 1)) (sym same) (anchor_spares S volume d row 1 m.anchor below (volume.members d member).target)
 
@@ -383,7 +383,7 @@ module _ (S : Setting) (asks : AsksFirst S) (volume : IsFirstVolume S) (log : Li
       vals : StepVals S log journal i (Got v)
       vals = step_vals k i left (Got v) here
 
-      at : (b : Bool) → unsure S journal (row_at S i) ≡ b → (place_of (the_shape S) (row_at S i) ≡ Some job.place) → IsValue S.start S.asked.ops log journal n i 0 (row_at S i) v b
+      at : (b : Bool) → unsure S journal (row_at S i) ≡ b → (placement_of (the_shape S) (row_at S i) ≡ Some job.place) → IsValue S.start S.asked.ops log journal n i 0 (row_at S i) v b
       at false sure place = vals.0 sure
       at true doubt place =
           let row : row_at S i ≡ job.place.row = ap row_in job.placed in
@@ -396,7 +396,7 @@ module _ (S : Setting) (asks : AsksFirst S) (volume : IsFirstVolume S) (log : Li
       by (Some (OpRead w s)) is r =
           let zero_is : w.0 ≡ 0 = kind_first S.asked.ops i (OpRead w s) asks.volumes is in
           let sector : row_at S i ≡ s = row_is S volume.level i job.place job.placed ∙ ap sector_in is in
-          let place : place_of (the_shape S) (row_at S i) ≡ Some job.place = ap (place_of (the_shape S)) (row_is S volume.level i job.place job.placed) ∙ job.placed in
+          let place : placement_of (the_shape S) (row_at S i) ≡ Some job.place = ap (placement_of (the_shape S)) (row_is S volume.level i job.place job.placed) ∙ job.placed in
           subst (λ a. IsValue S.start S.asked.ops log journal n i a s v (is_still_unsure S.start S.asked.ops journal a s)) (sym zero_is)
           (subst (λ b. IsValue S.start S.asked.ops log journal n i 0 b v (is_still_unsure S.start S.asked.ops journal 0 b)) sector (at (unsure S journal (row_at S i)) refl place))
       by (Some (OpWhole w)) is r = absurd cc

@@ -13,7 +13,7 @@ use Rattle.array_model.specs.declared.journal.Event.TheVariants.{Submit, Ack}
 use Rattle.array_model.specs.declared.journal.Answer.{Answer}
 use Rattle.array_model.specs.declared.journal.Answer.TheVariants.{Past}
 use Rattle.array_model.specs.Script.{is_of_client, is_of_client_in}
-use Rattle.array_model.specs.AnswerLaw.{Step, step_of, steps_of, steps_due, IsInOrder}
+use Rattle.array_model.specs.AnswerLaw.{OpEvent, op_event_of, op_events_of, op_events_due, IsInOrder}
 use Rattle.array_model.proofs.Steps.{pair}
 use Rattle.stage_machine.specs.Setting.{Setting}
 use Rattle.stage_machine.specs.Opens.{AsksFirst}
@@ -23,22 +23,22 @@ use Rattle.stage_machine.specs.Machine.{Control, World, Reached, opens, goes, ha
 use Rattle.stage_machine.proofs.Turns.{Turns, turns_of, nothing, fails, anchors, settles, ends, begins, readies, actives, cleans, rests, pasts, asks_read, asks_write, puts, syncs, gets, acks}
 use Rattle.stage_machine.proofs.Clients.{Mine, mine_reached, of_left, of_job, at_set, there_left, there_busy, at_start}
 
-abbrev ask : ℕ → Step
+abbrev ask : ℕ → OpEvent
 ask i = record { is_ack = false; op = i }
 
-abbrev answer_step : ℕ → Step
+abbrev answer_step : ℕ → OpEvent
 answer_step i = record { is_ack = true; op = i }
 
 -- what a client still has to do
-abbrev job_todo : Job → List Step
+abbrev job_todo : Job → List OpEvent
 job_todo NoJob = []
 job_todo (Busy i step) = answer_step i ∷ []
 
-abbrev pub todo : Client → List Step
+abbrev pub todo : Client → List OpEvent
 todo client = job_todo client.job ++ flat_map pair client.left
 
 abbrev pub Due : Setting → World → Type 0
-Due S w = (k : ℕ) → steps_due S.asked.ops k ≡ steps_of S.asked.ops k w.journal ++ todo (client_at w.control.clients k)
+Due S w = (k : ℕ) → op_events_due S.asked.ops k ≡ op_events_of S.asked.ops k w.journal ++ todo (client_at w.control.clients k)
 
 -- an operation of one client is of no other
 pub not_other : (ops : List Op) (j k i : ℕ) → is_of_client ops k i ≡ true → j ≢ k → is_of_client ops j i ≡ false
@@ -53,19 +53,19 @@ not_other ops j k i mine apart = at (slice_get ops i) mine
         by false is = is
 
 module _ (S : Setting) (n : ℕ) where
-  abbrev new_steps : ℕ → List Event → List Step
-  new_steps j es = steps_of S.asked.ops j (stamped n es)
+  abbrev new_steps : ℕ → List Event → List OpEvent
+  new_steps j es = op_events_of S.asked.ops j (stamped n es)
 
-  submit_mine : (k i : ℕ) → is_of_client S.asked.ops k i ≡ true → step_of S.asked.ops k (Submit i) ≡ Some (ask i)
+  submit_mine : (k i : ℕ) → is_of_client S.asked.ops k i ≡ true → op_event_of S.asked.ops k (Submit i) ≡ Some (ask i)
   submit_mine k i mine = rw mine refl
 
-  ack_mine : (k i : ℕ) (answer : Answer) → is_of_client S.asked.ops k i ≡ true → step_of S.asked.ops k (Ack i answer) ≡ Some (answer_step i)
+  ack_mine : (k i : ℕ) (answer : Answer) → is_of_client S.asked.ops k i ≡ true → op_event_of S.asked.ops k (Ack i answer) ≡ Some (answer_step i)
   ack_mine k i answer mine = rw mine refl
 
-  submit_other : (j i : ℕ) → is_of_client S.asked.ops j i ≡ false → step_of S.asked.ops j (Submit i) ≡ None
+  submit_other : (j i : ℕ) → is_of_client S.asked.ops j i ≡ false → op_event_of S.asked.ops j (Submit i) ≡ None
   submit_other j i other = rw other refl
 
-  ack_other : (j i : ℕ) (answer : Answer) → is_of_client S.asked.ops j i ≡ false → step_of S.asked.ops j (Ack i answer) ≡ None
+  ack_other : (j i : ℕ) (answer : Answer) → is_of_client S.asked.ops j i ≡ false → op_event_of S.asked.ops j (Ack i answer) ≡ None
   ack_other j i answer other = rw other refl
 
   -- a write's submit, and what the state enters with it
@@ -144,9 +144,9 @@ due_reached S asks w (goes {w = v} r a) = λ k.
     let n = calls_after v.calls (call_of S v.control a) in
     let new = stamped n (turned S v.control a).events in
     due_reached S asks v r k
-    ∙ ap (λ z. steps_of S.asked.ops k v.journal ++ z) (todo_turns S n v.control (got_of a) (mine_reached S v r) (turns_of S v.control a) k)
-    ∙ sym (append_assoc (steps_of S.asked.ops k v.journal) (steps_of S.asked.ops k new) (todo (client_at (happens S v a).control.clients k)))
-    ∙ ap (λ z. z ++ todo (client_at (happens S v a).control.clients k)) (sym (filter_map-append (λ (e : Entry). step_of S.asked.ops k e.event) v.journal new))
+    ∙ ap (λ z. op_events_of S.asked.ops k v.journal ++ z) (todo_turns S n v.control (got_of a) (mine_reached S v r) (turns_of S v.control a) k)
+    ∙ sym (append_assoc (op_events_of S.asked.ops k v.journal) (op_events_of S.asked.ops k new) (todo (client_at (happens S v a).control.clients k)))
+    ∙ ap (λ z. z ++ todo (client_at (happens S v a).control.clients k)) (sym (filter_map-append (λ (e : Entry). op_event_of S.asked.ops k e.event) v.journal new))
 
 pub in_order : (S : Setting) → AsksFirst S → (w : World) → Reached S w → (k : ℕ) → IsInOrder S.asked.ops w.journal k
 in_order S asks w r k = (todo (client_at w.control.clients k), due_reached S asks w r k)

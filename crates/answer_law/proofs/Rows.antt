@@ -14,15 +14,15 @@ use Rattle.array_model.specs.declared.script.OpKind.TheVariants.{Write as OpWrit
 use Rattle.array_model.specs.declared.journal.Entry.{Entry}
 use Rattle.array_model.specs.declared.journal.Event.TheVariants.{Ack}
 use Rattle.array_model.specs.declared.journal.Answer.TheVariants.{Done}
-use Rattle.array_model.specs.Script.{kind_at, write_at, target_in, sector_of}
-use Rattle.array_model.specs.Placement.{Place, place_by}
+use Rattle.array_model.specs.Script.{kind_at, write_at, write_in, sector_of}
+use Rattle.array_model.specs.Placement.{Placement, placement_by}
 use Rattle.array_model.specs.Events.{has as has_event, is_submit}
 use Rattle.array_model.specs.Content.{content, content_from, content_at, is_rewritten, is_still_unsure, is_write_done}
 use Rattle.array_model.specs.AnswerLaw.{IsGiven, submitted_from}
 use Rattle.array_model.proofs.Journals.{has-append}
-use Rattle.stage_machine.specs.Setting.{Setting, has}
+use Rattle.stage_machine.specs.Setting.{Setting, has_disk}
 use Rattle.stage_machine.specs.Opens.{AsksFirst, IsFirstVolume}
-use Rattle.stage_machine.specs.Jobs.{the_shape, place_at, row_at, row_in, value_at, value_in, sector_in, is_write, is_write_kind}
+use Rattle.stage_machine.specs.Jobs.{the_shape, placement_at, row_at, row_in, value_at, value_in, sector_in, is_write, is_write_kind}
 use Rattle.stage_machine.proofs.Targets.{disk, call, on_disk, off_disk}
 use Rattle.stage_machine.proofs.Clients.{kind_first}
 
@@ -65,7 +65,7 @@ pub other_row : (S : Setting) (a b : ℕ) → (a == b) ≡ false → (at_row S a
 other_row S a b apart = grind (arith, nat_tests, apart)
 
 -- an anchor isn't a row
-pub anchor_spares : (S : Setting) → IsFirstVolume S → (d row stored : ℕ) (s : Sector) → row < (the_shape S).size → has d S.targets ≡ true → Spares (at_row S row) (Write (anchor_place (S.start.disks.sectors d)) (s ∷ []) stored)
+pub anchor_spares : (S : Setting) → IsFirstVolume S → (d row stored : ℕ) (s : Sector) → row < (the_shape S).size → has_disk d S.targets ≡ true → Spares (at_row S row) (Write (anchor_place (S.start.disks.sectors d)) (s ∷ []) stored)
 anchor_spares S volume d row stored s below target =
     let room = volume.room d target in
     let rows = volume.rows in
@@ -105,9 +105,9 @@ plain_unsure S journal new plain row =
 -- OPERATIONS
 
 -- the row of a place is the sector
-pub row_is : (S : Setting) → (the_shape S).level ≡ Some One → (i : ℕ) (place : Place) → place_at S i ≡ Some place → row_at S i ≡ sector_in (kind_at S.asked.ops i)
+pub row_is : (S : Setting) → (the_shape S).level ≡ Some One → (i : ℕ) (place : Placement) → placement_at S i ≡ Some place → row_at S i ≡ sector_in (kind_at S.asked.ops i)
 row_is S one i place is =
-    let by_level : place_by (Some One) (the_shape S) (sector_in (kind_at S.asked.ops i)) ≡ Some place = ap (λ l. place_by l (the_shape S) (sector_in (kind_at S.asked.ops i))) (sym one) ∙ is in
+    let by_level : placement_by (Some One) (the_shape S) (sector_in (kind_at S.asked.ops i)) ≡ Some place = ap (λ l. placement_by l (the_shape S) (sector_in (kind_at S.asked.ops i))) (sym one) ∙ is in
     at (nat_lt (sector_in (kind_at S.asked.ops i)) (the_shape S).size) by_level
   where
     at : (b : Bool) → (if b then Some (record { main = 0; other = 1; row = sector_in (kind_at S.asked.ops i) }) else None) ≡ Some place → row_at S i ≡ sector_in (kind_at S.asked.ops i)
@@ -115,11 +115,11 @@ row_is S one i place is =
     at false here = absurd cc
 
 -- a write's target
-pub write_is : (S : Setting) → AsksFirst S → IsFirstVolume S → (i : ℕ) (place : Place) → place_at S i ≡ Some place → is_write S i ≡ true
+pub write_is : (S : Setting) → AsksFirst S → IsFirstVolume S → (i : ℕ) (place : Placement) → placement_at S i ≡ Some place → is_write S i ≡ true
     → write_at S.asked.ops i ≡ Some (record { volume = 0; sector = row_at S i; value = value_at S i })
 write_is S asks volume i place placed w = at (kind_at S.asked.ops i) refl w
   where
-    at : (kind : Option OpKind) → kind_at S.asked.ops i ≡ kind → is_write_kind kind ≡ true → target_in kind ≡ Some (record { volume = 0; sector = row_at S i; value = value_at S i })
+    at : (kind : Option OpKind) → kind_at S.asked.ops i ≡ kind → is_write_kind kind ≡ true → write_in kind ≡ Some (record { volume = 0; sector = row_at S i; value = value_at S i })
     at None is w = absurd cc
     at (Some (OpWrite v s value)) is w =
         let zero_is : v.0 ≡ 0 = kind_first S.asked.ops i (OpWrite v s value) asks.volumes is in
@@ -130,7 +130,7 @@ write_is S asks volume i place placed w = at (kind_at S.asked.ops i) refl w
     at (Some (OpWhole v)) is w = absurd cc
 
 -- a write that is done brings its value to its row, and makes it sure; other rows stay as they are
-module _ (S : Setting) (asks : AsksFirst S) (volume : IsFirstVolume S) (i : ℕ) (place : Place) (placed : place_at S i ≡ Some place) (w : is_write S i ≡ true) (n : ℕ) (journal : List Entry) where
+module _ (S : Setting) (asks : AsksFirst S) (volume : IsFirstVolume S) (i : ℕ) (place : Placement) (placed : placement_at S i ≡ Some place) (w : is_write S i ≡ true) (n : ℕ) (journal : List Entry) where
   abbrev done : List Entry
   done = record { stamp = n; event = Ack i Done } ∷ []
 

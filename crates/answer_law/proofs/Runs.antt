@@ -11,7 +11,7 @@ use Rattle.array_model.specs.declared.journal.Event.{Event}
 use Rattle.array_model.specs.declared.journal.Event.TheVariants.{Ack}
 use Rattle.array_model.specs.declared.journal.Answer.TheVariants.{Done, Value, Past, Failed, NoSpare}
 use Rattle.array_model.specs.Script.{kind_at}
-use Rattle.array_model.specs.Placement.{Place, place_of}
+use Rattle.array_model.specs.Placement.{Placement, placement_of}
 use Rattle.array_model.specs.Events.{AtEach, AtEachFrom}
 use Rattle.array_model.specs.Moments.{AllBelow}
 use Rattle.array_model.specs.Content.{is_still_unsure}
@@ -53,13 +53,13 @@ value_more S log x front stamp (Ack i (Value y)) short h = by (kind_at S.asked.o
     given v row since (inl one) = inl (given_more S log x v row since stamp stamp y short (omega arith) one)
     given v row since (inr (five, first, more, all, is)) = inr (five, first, more, all_given_more S log x v row since stamp (first ∷ more) short all, is)
 
-    at_place : (v : ℕ) (place : Option Place) (since : ℕ) → IsGivenAt S.start log v place since stamp y → IsGivenAt S.start (log ++ x ∷ []) v place since stamp y
+    at_place : (v : ℕ) (place : Option Placement) (since : ℕ) → IsGivenAt S.start log v place since stamp y → IsGivenAt S.start (log ++ x ∷ []) v place since stamp y
     at_place v None since h = h
     at_place v (Some place) since h = given v place.row since h
 
     at : (v s : ℕ) (b : Bool) → IsValue S.start S.asked.ops log front stamp i v s y b → IsValue S.start S.asked.ops (log ++ x ∷ []) front stamp i v s y b
     at v s false h = h
-    at v s true h = at_place v (place_of (S.start.words.shape S.start.newest v) s) (submitted_from i 0 front) h
+    at v s true h = at_place v (placement_of (S.start.words.shape S.start.newest v) s) (submitted_from i 0 front) h
 
     by : (kind : Option OpKind) → ValueOf S.start S.asked.ops log front stamp i y kind → ValueOf S.start S.asked.ops (log ++ x ∷ []) front stamp i y kind
     by None h = h

@@ -11,7 +11,7 @@ use Rattle.array_model.specs.declared.journal.Answer.{Answer}
 use Rattle.array_model.specs.declared.journal.Answer.TheVariants.{Done, Value}
 use Rattle.array_model.specs.Events.{has as has_event, is_submit}
 use Rattle.array_model.specs.AnswerLaw.{IsGiven, submitted_from}
-use Rattle.stage_machine.specs.Setting.{Setting, has}
+use Rattle.stage_machine.specs.Setting.{Setting, has_disk}
 use Rattle.stage_machine.specs.Jobs.{JobStep, Waiting, Writing, Syncing, Written, Got, Job, NoJob, Busy, Client, the_shape, row_at, value_at, holds, Need, NoNeed, Reads, Writes, Syncs, Answers, need_of, first_need, read_need, write_need, sync_need, after_write, after_sync}
 use Rattle.stage_machine.specs.Machine.{Control, is_held, need_now, need_unless, log_after}
 use Rattle.stage_machine.proofs.Clients.{at_set}
@@ -20,7 +20,7 @@ use Rattle.answer_law.proofs.Rows.{stood, con, unsure, given_more, submitted-app
 
 -- each member but those left holds what the operation writes
 abbrev pub WrittenBut : Setting → List Call → ℕ → List ℕ → Type 0
-WrittenBut S log i left = (d : ℕ) → has d S.members ≡ true → has d left ≡ false → stood S log d (row_at S i) ≡ value_at S i
+WrittenBut S log i left = (d : ℕ) → has_disk d S.members ≡ true → has_disk d left ≡ false → stood S log d (row_at S i) ≡ value_at S i
 
 abbrev pub Given : Setting → List Call → List Entry → ℕ → Sector → Type 0
 Given S log journal i v = IsGiven S.start log 0 (row_at S i) (submitted_from i 0 journal) (length log) v
@@ -53,7 +53,7 @@ NoWriter S clients row = (k : ℕ) → writes_row S row (job_of clients k) ≡ f
 
 pub record Vals (S : Setting) (log : List Call) (journal : List Entry) (clients : List Client) : Type 0 where
   pub jobs : (k : ℕ) → JobVals S log journal (job_of clients k)
-  pub free : (row d : ℕ) → row < (the_shape S).size → NoWriter S clients row → has d S.members ≡ true → unsure S journal row ≡ false
+  pub free : (row d : ℕ) → row < (the_shape S).size → NoWriter S clients row → has_disk d S.members ≡ true → unsure S journal row ≡ false
       → stood S log d row ≡ con S journal row
 
 -- WHAT A NEED SAYS OF THE STEP
@@ -95,7 +95,7 @@ module _ (S : Setting) (c : Control) (k i : ℕ) where
   -- all but these were written
   pub written_but : (log : List Call) (journal : List Entry) (step : JobStep) (d : ℕ) (ds : List ℕ) → need_of S i step ≡ Writes d ds → StepVals S log journal i step → WrittenBut S log i (d ∷ ds)
   written_but log journal step d ds h vals = elim (writes_from step d ds h) [
-    | inl waits ↦ λ x member out. absurd (let inside : has x (d ∷ ds) ≡ true = subst (λ ms. has x ms ≡ true) waits.1 member in cc (inside, out))
+    | inl waits ↦ λ x member out. absurd (let inside : has_disk x (d ∷ ds) ≡ true = subst (λ ms. has_disk x ms ≡ true) waits.1 member in cc (inside, out))
     | inr writes ↦ subst (StepVals S log journal i) writes vals
   ]
 
@@ -217,7 +217,7 @@ no_writer_back S clients k x row lt back none j = elim (at_set clients k x j lt)
 
 -- at the row of operation i nothing changed
 pub record Carry (S : Setting) (log : List Call) (journal : List Entry) (more : List Call) (later : List Entry) (i : ℕ) : Type 0 where
-  pub stood_same : (d : ℕ) → has d S.members ≡ true → stood S more d (row_at S i) ≡ stood S log d (row_at S i)
+  pub stood_same : (d : ℕ) → has_disk d S.members ≡ true → stood S more d (row_at S i) ≡ stood S log d (row_at S i)
   pub con_same : con S later (row_at S i) ≡ con S journal (row_at S i)
   pub unsure_same : unsure S later (row_at S i) ≡ unsure S journal (row_at S i)
   pub given : (v : Sector) → Given S log journal i v → Given S more later i v

@@ -12,7 +12,7 @@ use Rattle.array_model.specs.declared.journal.Event.TheVariants.{Submit, Ack}
 use Rattle.array_model.specs.Script.{is_of_client}
 use Rattle.array_model.specs.Events.{has, count, is_submit, is_ack_of}
 use Rattle.array_model.specs.Form.{NamesOp}
-use Rattle.array_model.specs.AnswerLaw.{Step, step_of, steps_of, steps_due, IsInOrder}
+use Rattle.array_model.specs.AnswerLaw.{OpEvent, op_event_of, op_events_of, op_events_due, IsInOrder}
 
 -- COUNTS
 
@@ -69,7 +69,7 @@ has_counted test (x ∷ xs) h = at (test x.event) refl (has_counted test xs) h
 
 -- STEPS OF AN OPERATION: its ack, or its submit
 
-abbrev pub is_step : Bool → ℕ → Step → Bool
+abbrev pub is_step : Bool → ℕ → OpEvent → Bool
 is_step true i s = s.is_ack && (s.op == i)
 is_step false i s = not s.is_ack && (s.op == i)
 
@@ -77,7 +77,7 @@ abbrev pub tells_step : Bool → ℕ → Event → Bool
 tells_step true i event = is_ack_of i event
 tells_step false i event = is_submit i event
 
-abbrev pub pair : ℕ → List Step
+abbrev pub pair : ℕ → List OpEvent
 pair i = record { is_ack = false; op = i } ∷ record { is_ack = true; op = i } ∷ []
 
 pub count_pairs : (b : Bool) (i : ℕ) (xs : List ℕ) → count_by (is_step b i) (flat_map pair xs) ≡ count_by (λ j. j == i) xs
@@ -100,13 +100,13 @@ count_pairs false i (x ∷ xs) =
     )
 
 -- each step is due once at most
-pub due_once : (ops : List Op) (c : ℕ) (b : Bool) (i : ℕ) → count_by (is_step b i) (steps_due ops c) ≤ 1
+pub due_once : (ops : List Op) (c : ℕ) (b : Bool) (i : ℕ) → count_by (is_step b i) (op_events_due ops c) ≤ 1
 due_once ops c b i =
     let mine = filter (is_of_client ops c) (range_with_len 0 (length ops)) in
     omega (arith, count_pairs b i mine, count_filter (λ j. j == i) (is_of_client ops c) (range_with_len 0 (length ops)), once_in_range i 0 (length ops))
 
 -- a journal has a step of a client's operation as often as the client's steps have it
-pub tells_steps : (ops : List Op) (c i : ℕ) → is_of_client ops c i ≡ true → (b : Bool) (journal : List Entry) → count (tells_step b i) journal ≡ count_by (is_step b i) (steps_of ops c journal)
+pub tells_steps : (ops : List Op) (c i : ℕ) → is_of_client ops c i ≡ true → (b : Bool) (journal : List Entry) → count (tells_step b i) journal ≡ count_by (is_step b i) (op_events_of ops c journal)
 tells_steps ops c i mine b [] = refl
 tells_steps ops c i mine b (e ∷ es) = count-cons (λ (x : Entry). tells_step b i x.event) e es ∙ at b e.event (tells_steps ops c i mine b es)
   where
@@ -118,24 +118,24 @@ tells_steps ops c i mine b (e ∷ es) = count-cons (λ (x : Entry). tells_step b
         by true is = absurd (let here : j ≡ i = grind (arith, nat_tests, is) in cc (ap (is_of_client ops c) here, mine, not_mine))
         by false is = is
 
-    Counted : Bool → Event → Option Step → Type 0
+    Counted : Bool → Event → Option OpEvent → Type 0
     Counted b event step =
-        count (tells_step b i) es ≡ count_by (is_step b i) (steps_of ops c es)
-        → number (tells_step b i event) + count (tells_step b i) es ≡ count_by (is_step b i) (cons_option step (steps_of ops c es))
+        count (tells_step b i) es ≡ count_by (is_step b i) (op_events_of ops c es)
+        → number (tells_step b i event) + count (tells_step b i) es ≡ count_by (is_step b i) (cons_option step (op_events_of ops c es))
 
     of_submit : (b : Bool) (j : ℕ) (t : Bool) → is_of_client ops c j ≡ t → Counted b (Submit j) (if t then Some (record { is_ack = false; op = j }) else None)
-    of_submit true j true is h = omega (arith, h, count-cons (is_step true i) (record { is_ack = false; op = j }) (steps_of ops c es))
-    of_submit false j true is h = omega (arith, h, count-cons (is_step false i) (record { is_ack = false; op = j }) (steps_of ops c es))
+    of_submit true j true is h = omega (arith, h, count-cons (is_step true i) (record { is_ack = false; op = j }) (op_events_of ops c es))
+    of_submit false j true is h = omega (arith, h, count-cons (is_step false i) (record { is_ack = false; op = j }) (op_events_of ops c es))
     of_submit true j false is h = omega (arith, h)
     of_submit false j false is h = let first : number (j == i) ≡ 0 = ap number (other j is) in omega (arith, h, first)
 
     of_ack : (b : Bool) (j : ℕ) (answer : _) (t : Bool) → is_of_client ops c j ≡ t → Counted b (Ack j answer) (if t then Some (record { is_ack = true; op = j }) else None)
-    of_ack true j answer true is h = omega (arith, h, count-cons (is_step true i) (record { is_ack = true; op = j }) (steps_of ops c es))
-    of_ack false j answer true is h = omega (arith, h, count-cons (is_step false i) (record { is_ack = true; op = j }) (steps_of ops c es))
+    of_ack true j answer true is h = omega (arith, h, count-cons (is_step true i) (record { is_ack = true; op = j }) (op_events_of ops c es))
+    of_ack false j answer true is h = omega (arith, h, count-cons (is_step false i) (record { is_ack = true; op = j }) (op_events_of ops c es))
     of_ack true j answer false is h = let first : number (j == i) ≡ 0 = ap number (other j is) in omega (arith, h, first)
     of_ack false j answer false is h = omega (arith, h)
 
-    at : (b : Bool) (event : Event) → Counted b event (step_of ops c event)
+    at : (b : Bool) (event : Event) → Counted b event (op_event_of ops c event)
     at b (Submit j) h = of_submit b j (is_of_client ops c j) refl h
     at b (Ack j answer) h = of_ack b j answer (is_of_client ops c j) refl h
     at true _ h = omega (arith, h)
@@ -144,7 +144,7 @@ tells_steps ops c i mine b (e ∷ es) = count-cons (λ (x : Entry). tells_step b
 once : (ops : List Op) (journal : List Entry) (c : ℕ) → IsInOrder ops journal c → (b : Bool) (i : ℕ) → is_of_client ops c i ≡ true → count (tells_step b i) journal ≤ 1
 once ops journal c (rest, due) b i mine =
     let all = ap (λ steps. count_by (is_step b i) steps) due in
-    omega (arith, all, count_parts (is_step b i) (steps_of ops c journal) rest, tells_steps ops c i mine b journal, due_once ops c b i)
+    omega (arith, all, count_parts (is_step b i) (op_events_of ops c journal) rest, tells_steps ops c i mine b journal, due_once ops c b i)
 
 -- ALL OPERATIONS
 

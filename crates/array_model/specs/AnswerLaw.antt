@@ -17,7 +17,7 @@ use Rattle.array_model.specs.declared.journal.Answer.TheVariants.{Done, Value, P
 use Rattle.array_model.specs.Script.{Asked, kind_at, is_of_client}
 use Rattle.array_model.specs.Events.{AtEach, has, count, is_submit, is_faulty, is_spare_of, is_settled, is_settled_as, up_to}
 use Rattle.array_model.specs.Moments.{EachCall}
-use Rattle.array_model.specs.Placement.{Place, place_of}
+use Rattle.array_model.specs.Placement.{Placement, placement_of}
 use Rattle.array_model.specs.Blocks.{Laid, SlotWords}
 use Rattle.array_model.specs.Candidates.{disk_after}
 use Rattle.array_model.specs.Rounds.{IsFinished, is_lost}
@@ -29,27 +29,27 @@ use Rattle.array_model.specs.Start.{Start}
 -- ORDER
 
 -- a submit or an ack of an operation
-pub record Step : Type 0 where
+pub record OpEvent : Type 0 where
   pub is_ack : Bool
   pub op : ℕ
 
-abbrev pub step_of : List Op → ℕ → Event → Option Step
-step_of ops c (Submit i) = if is_of_client ops c i then Some (record { is_ack = false; op = i }) else None
-step_of ops c (Ack i answer) = if is_of_client ops c i then Some (record { is_ack = true; op = i }) else None
-step_of ops c _ = None
+abbrev pub op_event_of : List Op → ℕ → Event → Option OpEvent
+op_event_of ops c (Submit i) = if is_of_client ops c i then Some (record { is_ack = false; op = i }) else None
+op_event_of ops c (Ack i answer) = if is_of_client ops c i then Some (record { is_ack = true; op = i }) else None
+op_event_of ops c _ = None
 
 -- what the journal has of a client, and what the script gives it to do: to submit each of its operations and have it
 -- answered before the next
-abbrev pub steps_of : List Op → ℕ → List Entry → List Step
-steps_of ops c journal = filter_map (λ e. step_of ops c e.event) journal
+abbrev pub op_events_of : List Op → ℕ → List Entry → List OpEvent
+op_events_of ops c journal = filter_map (λ e. op_event_of ops c e.event) journal
 
-abbrev pub steps_due : List Op → ℕ → List Step
-steps_due ops c =
+abbrev pub op_events_due : List Op → ℕ → List OpEvent
+op_events_due ops c =
     flat_map (λ i. record { is_ack = false; op = i } ∷ record { is_ack = true; op = i } ∷ [])
     (filter (is_of_client ops c) (range_with_len 0 (length ops)))
 
 abbrev pub IsInOrder : List Op → List Entry → ℕ → Type 0
-IsInOrder ops journal c = (rest : List Step) × (steps_due ops c ≡ steps_of ops c journal ++ rest)
+IsInOrder ops journal c = (rest : List OpEvent) × (op_events_due ops c ≡ op_events_of ops c journal ++ rest)
 
 -- VALUES
 
@@ -86,7 +86,7 @@ abbrev pub submitted_from : ℕ → ℕ → List Entry → ℕ
 submitted_from i found [] = found
 submitted_from i found (e ∷ es) = submitted_from i (if is_submit i e.event then e.stamp else found) es
 
-abbrev pub IsGivenAt : Start → List Call → ℕ → Option Place → (since stamp : ℕ) → Sector → Type 0
+abbrev pub IsGivenAt : Start → List Call → ℕ → Option Placement → (since stamp : ℕ) → Sector → Type 0
 IsGivenAt start log v None since stamp x = ⊥
 IsGivenAt start log v (Some place) since stamp x = IsGivenOrXor start log v place.row since stamp x
 
@@ -95,7 +95,7 @@ IsGivenAt start log v (Some place) since stamp x = IsGivenOrXor start log v plac
 abbrev pub IsValue : Start → List Op → List Call → List Entry → ℕ → ℕ → ℕ → ℕ → Sector → Bool → Type 0
 IsValue start ops log front stamp i v s x false = x ≡ content start ops front v s
 IsValue start ops log front stamp i v s x true =
-    IsGivenAt start log v (place_of (start.words.shape start.newest v) s) (submitted_from i 0 front) stamp x
+    IsGivenAt start log v (placement_of (start.words.shape start.newest v) s) (submitted_from i 0 front) stamp x
 
 abbrev pub ValueOf : Start → List Op → List Call → List Entry → ℕ → ℕ → Sector → Option OpKind → Type 0
 ValueOf start ops log front stamp i x None = ⊥

@@ -10,7 +10,7 @@ use Rattle.array_model.specs.declared.journal.Event.{Event}
 use Rattle.array_model.specs.declared.journal.Event.TheVariants.{Begin, End, Ready, Submit, Pending, Active, Ack, Idle, Clean}
 use Rattle.array_model.specs.declared.journal.Answer.{Answer}
 use Rattle.array_model.specs.declared.journal.Answer.TheVariants.{Done, Value, Past, Failed, NoSpare}
-use Rattle.array_model.specs.Script.{Target, kind_at, write_at}
+use Rattle.array_model.specs.Script.{VolumeWrite, kind_at, write_at}
 use Rattle.array_model.specs.Events.{AtEach, has, is_submit, is_ack_of, is_any_fault}
 use Rattle.array_model.specs.Start.{Start}
 
@@ -49,19 +49,19 @@ course_of journal = course_from NoRound journal
 
 -- ARRAY STATES
 
--- the state of a volume that a journal tells; closed before its ready
-pub data Told : Type 0 where
-  ToldClosed : Told
-  ToldReadAuto : Told
-  ToldClean : Told
-  ToldPending : Told
-  ToldActive : Told
-  ToldIdle : Told
+-- the state of a volume by a journal; closed before its ready
+pub data ArrayState : Type 0 where
+  ArrayClosed : ArrayState
+  ArrayReadAuto : ArrayState
+  ArrayClean : ArrayState
+  ArrayPending : ArrayState
+  ArrayActive : ArrayState
+  ArrayIdle : ArrayState
 
 abbrev pub size_of : Start → ℕ → ℕ
 size_of start v = (start.words.shape start.newest v).size
 
-abbrev pub is_inside : Start → ℕ → Option Target → Bool
+abbrev pub is_inside : Start → ℕ → Option VolumeWrite → Bool
 is_inside start v None = false
 is_inside start v (Some t) = (t.volume == v) && nat_lt t.sector (size_of start v)
 
@@ -70,39 +70,39 @@ abbrev pub is_write_inside : Start → List Op → ℕ → ℕ → Bool
 is_write_inside start ops v i = is_inside start v (write_at ops i)
 
 -- a write that is asked for makes an idle volume active, without an entry
-abbrev pub woken : Told → Told
-woken ToldClosed = ToldClosed
-woken ToldReadAuto = ToldReadAuto
-woken ToldClean = ToldClean
-woken ToldPending = ToldPending
-woken ToldActive = ToldActive
-woken ToldIdle = ToldActive
+abbrev pub woken : ArrayState → ArrayState
+woken ArrayClosed = ArrayClosed
+woken ArrayReadAuto = ArrayReadAuto
+woken ArrayClean = ArrayClean
+woken ArrayPending = ArrayPending
+woken ArrayActive = ArrayActive
+woken ArrayIdle = ArrayActive
 
-abbrev pub told_at : Start → List Op → ℕ → Told → Event → Told
-told_at start ops v told (Ready w) = if w.0 == v then ToldReadAuto else told
-told_at start ops v told (Pending w) = if w.0 == v then ToldPending else told
-told_at start ops v told (Active w) = if w.0 == v then ToldActive else told
-told_at start ops v told (Idle w) = if w.0 == v then ToldIdle else told
-told_at start ops v told (Clean w) = if w.0 == v then ToldClean else told
-told_at start ops v told (Submit i) = if is_write_inside start ops v i then woken told else told
-told_at start ops v told _ = told
+abbrev pub array_state_at : Start → List Op → ℕ → ArrayState → Event → ArrayState
+array_state_at start ops v now (Ready w) = if w.0 == v then ArrayReadAuto else now
+array_state_at start ops v now (Pending w) = if w.0 == v then ArrayPending else now
+array_state_at start ops v now (Active w) = if w.0 == v then ArrayActive else now
+array_state_at start ops v now (Idle w) = if w.0 == v then ArrayIdle else now
+array_state_at start ops v now (Clean w) = if w.0 == v then ArrayClean else now
+array_state_at start ops v now (Submit i) = if is_write_inside start ops v i then woken now else now
+array_state_at start ops v now _ = now
 
-abbrev pub told_from : Start → List Op → ℕ → Told → List Entry → Told
-told_from start ops v told [] = told
-told_from start ops v told (e ∷ es) = told_from start ops v (told_at start ops v told e.event) es
+abbrev pub array_state_from : Start → List Op → ℕ → ArrayState → List Entry → ArrayState
+array_state_from start ops v now [] = now
+array_state_from start ops v now (e ∷ es) = array_state_from start ops v (array_state_at start ops v now e.event) es
 
-abbrev pub told_of : Start → List Op → List Entry → ℕ → Told
-told_of start ops journal v = told_from start ops v ToldClosed journal
+abbrev pub array_state_of : Start → List Op → List Entry → ℕ → ArrayState
+array_state_of start ops journal v = array_state_from start ops v ArrayClosed journal
 
--- the volume was started, and the journal tells this state of it
-pub record IsTold (start : Start) (ops : List Op) (journal : List Entry) (v : ℕ) (told : Told) : Type 0 where
+-- the volume was started, and is in this state
+pub record IsInState (start : Start) (ops : List Op) (journal : List Entry) (v : ℕ) (now : ArrayState) : Type 0 where
   pub started : start.is_started v ≡ true
-  pub state : told_of start ops journal v ≡ told
+  pub state : array_state_of start ops journal v ≡ now
 
 -- the volume was started, and is ready
 pub record IsReady (start : Start) (ops : List Op) (journal : List Entry) (v : ℕ) : Type 0 where
   pub started : start.is_started v ≡ true
-  pub ready : told_of start ops journal v ≡ ToldClosed → ⊥
+  pub ready : array_state_of start ops journal v ≡ ArrayClosed → ⊥
 
 -- an operation is asked for where its volume is ready
 abbrev pub IsAskedFor : Start → List Op → List Entry → Option OpKind → Type 0
@@ -114,45 +114,45 @@ IsAskedFor start ops front (Some (Whole v)) = IsReady start ops front v.0
 -- WHEN A ROUND IS DUE
 
 -- in these states a round's block is dirty
-abbrev pub needs_dirty : Told → Bool
-needs_dirty ToldClosed = false
-needs_dirty ToldReadAuto = false
-needs_dirty ToldClean = false
-needs_dirty ToldPending = true
-needs_dirty ToldActive = true
-needs_dirty ToldIdle = true
+abbrev pub needs_dirty : ArrayState → Bool
+needs_dirty ArrayClosed = false
+needs_dirty ArrayReadAuto = false
+needs_dirty ArrayClean = false
+needs_dirty ArrayPending = true
+needs_dirty ArrayActive = true
+needs_dirty ArrayIdle = true
 
-abbrev pub recorded_at : Told → Bool → Event → Bool
-recorded_at told recorded (Begin g) = needs_dirty told
-recorded_at told recorded _ = recorded
+abbrev pub recorded_at : ArrayState → Bool → Event → Bool
+recorded_at now recorded (Begin g) = needs_dirty now
+recorded_at now recorded _ = recorded
 
-abbrev pub recorded_from : Start → List Op → Told → Bool → List Entry → Bool
-recorded_from start ops told recorded [] = recorded
-recorded_from start ops told recorded (e ∷ es) =
-    recorded_from start ops (told_at start ops 0 told e.event) (recorded_at told recorded e.event) es
+abbrev pub recorded_from : Start → List Op → ArrayState → Bool → List Entry → Bool
+recorded_from start ops now recorded [] = recorded
+recorded_from start ops now recorded (e ∷ es) =
+    recorded_from start ops (array_state_at start ops 0 now e.event) (recorded_at now recorded e.event) es
 
 -- the dirty bit of volume 0 in the block of the round begun last
 abbrev pub recorded_of : Start → List Op → List Entry → Bool
-recorded_of start ops journal = recorded_from start ops ToldClosed false journal
+recorded_of start ops journal = recorded_from start ops ArrayClosed false journal
 
 -- a round is due where the volume is write-pending and was recorded as clean, and where it is read-auto or clean and
 -- was recorded as dirty
-abbrev pub IsDueIn : Told → Bool → Type 0
-IsDueIn ToldClosed recorded = ⊥
-IsDueIn ToldReadAuto recorded = recorded ≡ true
-IsDueIn ToldClean recorded = recorded ≡ true
-IsDueIn ToldPending recorded = recorded ≡ false
-IsDueIn ToldActive recorded = ⊥
-IsDueIn ToldIdle recorded = ⊥
+abbrev pub IsDueIn : ArrayState → Bool → Type 0
+IsDueIn ArrayClosed recorded = ⊥
+IsDueIn ArrayReadAuto recorded = recorded ≡ true
+IsDueIn ArrayClean recorded = recorded ≡ true
+IsDueIn ArrayPending recorded = recorded ≡ false
+IsDueIn ArrayActive recorded = ⊥
+IsDueIn ArrayIdle recorded = ⊥
 
 -- and once before all else
-abbrev pub IsDueBy : Course → Told → Bool → Type 0
-IsDueBy NoRound told recorded = ⊤
-IsDueBy (GoesOn g) told recorded = ⊥
-IsDueBy Over told recorded = IsDueIn told recorded
+abbrev pub IsDueBy : Course → ArrayState → Bool → Type 0
+IsDueBy NoRound now recorded = ⊤
+IsDueBy (GoesOn g) now recorded = ⊥
+IsDueBy Over now recorded = IsDueIn now recorded
 
 abbrev pub IsDue : Start → List Op → List Entry → Type 0
-IsDue start ops front = IsDueBy (course_of front) (told_of start ops front 0) (recorded_of start ops front)
+IsDue start ops front = IsDueBy (course_of front) (array_state_of start ops front 0) (recorded_of start ops front)
 
 -- SUBMITS
 
@@ -212,7 +212,7 @@ IsAnswerTo start front (Some (Whole v)) answer = WholeAnswer answer
 
 -- the volume is read-auto or clean: the next write to it makes it write-pending
 abbrev pub AwaitsWrite : Start → List Op → List Entry → ℕ → Type 0
-AwaitsWrite start ops front v = IsTold start ops front v ToldReadAuto ⊎ IsTold start ops front v ToldClean
+AwaitsWrite start ops front v = IsInState start ops front v ArrayReadAuto ⊎ IsInState start ops front v ArrayClean
 
 -- The cause of an entry behind a front of the journal. A round begins where one is due and none goes on, with the next
 -- generation, and the round that goes on ends. A volume is write-pending right behind the submit of a write to it.
@@ -222,11 +222,11 @@ AwaitsWrite start ops front v = IsTold start ops front v ToldReadAuto ⊎ IsTold
 abbrev pub IsCaused : Start → List Op → List Entry → Event → Type 0
 IsCaused start ops front (Begin g) = IsDue start ops front × (g ≡ note_of start front + 1)
 IsCaused start ops front (End g) = course_of front ≡ GoesOn g
-IsCaused start ops front (Ready v) = IsTold start ops front v.0 ToldClosed × (course_of front ≡ Over)
+IsCaused start ops front (Ready v) = IsInState start ops front v.0 ArrayClosed × (course_of front ≡ Over)
 IsCaused start ops front (Pending v) = AwaitsWrite start ops front v.0 × (is_woken start ops front v.0 ≡ true)
-IsCaused start ops front (Active v) = IsTold start ops front v.0 ToldPending × (course_of front ≡ Over)
-IsCaused start ops front (Idle v) = IsTold start ops front v.0 ToldActive × AreAnswered start ops front v.0
-IsCaused start ops front (Clean v) = IsTold start ops front v.0 ToldIdle
+IsCaused start ops front (Active v) = IsInState start ops front v.0 ArrayPending × (course_of front ≡ Over)
+IsCaused start ops front (Idle v) = IsInState start ops front v.0 ArrayActive × AreAnswered start ops front v.0
+IsCaused start ops front (Clean v) = IsInState start ops front v.0 ArrayIdle
 IsCaused start ops front (Submit i) = IsAskedFor start ops front (kind_at ops i)
 IsCaused start ops front (Ack i answer) = IsAnswerTo start front (kind_at ops i) answer
 IsCaused start ops front _ = ⊥

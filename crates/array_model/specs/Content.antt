@@ -6,11 +6,11 @@ use Rattle.array_model.specs.declared.script.Op.{Op}
 use Rattle.array_model.specs.declared.journal.Entry.{Entry}
 use Rattle.array_model.specs.declared.journal.Event.{Event}
 use Rattle.array_model.specs.declared.journal.Event.TheVariants.{Ack}
-use Rattle.array_model.specs.Script.{Target, write_at, is_write_to, is_at}
+use Rattle.array_model.specs.Script.{VolumeWrite, write_at, is_write_to, is_at}
 use Rattle.array_model.specs.Events.{has, is_submit, is_ack_done, is_done}
 use Rattle.array_model.specs.Start.{Start}
 
-abbrev pub left_by : ℕ → ℕ → Sector → Option Target → Sector
+abbrev pub left_by : ℕ → ℕ → Sector → Option VolumeWrite → Sector
 left_by v s x None = x
 left_by v s x (Some t) = if is_at v s (Some t) then t.value else x
 

@@ -8,10 +8,10 @@ use Rattle.array_model.specs.declared.script.Op.{Op}
 use Rattle.array_model.specs.declared.journal.Entry.{Entry}
 use Rattle.array_model.specs.declared.journal.Event.{Event}
 use Rattle.array_model.specs.declared.journal.Event.TheVariants.{Begin, Pass, Ack, Applied, Fault, Kill, Takeover}
-use Rattle.array_model.specs.Script.{Target, write_at, kind_at, names_sector}
+use Rattle.array_model.specs.Script.{VolumeWrite, write_at, kind_at, names_sector}
 use Rattle.array_model.specs.Events.{AtEach, has, is_submit, is_done, is_fault, is_faulty, last_stamp}
 use Rattle.array_model.specs.Moments.{IsMoment, AllBelow, EachCall}
-use Rattle.array_model.specs.Placement.{Place, place_of}
+use Rattle.array_model.specs.Placement.{Placement, placement_of}
 use Rattle.array_model.specs.Blocks.{Laid, SlotWords}
 use Rattle.array_model.specs.Rounds.{IsFinished, IsRound, DurableOnWorking, is_lost}
 use Rattle.array_model.specs.Start.{Start}
@@ -24,14 +24,14 @@ pub record HasInSlot (start : Start) (m : Laid) (v slot d : ℕ) : Type 0 where
   pub there : slice_get (start.words.slots m v) slot ≡ Some words
   pub same : words.serial ≡ start.disks.serial d
 
--- the slots of a place
-abbrev pub InPlace : Start → Laid → ℕ → ℕ → Option Place → Type 0
-InPlace start m v d None = ⊥
-InPlace start m v d (Some place) = HasInSlot start m v place.main d ⊎ HasInSlot start m v place.other d
+-- the slots of a placement
+abbrev pub InPlacement : Start → Laid → ℕ → ℕ → Option Placement → Type 0
+InPlacement start m v d None = ⊥
+InPlacement start m v d (Some place) = HasInSlot start m v place.main d ⊎ HasInSlot start m v place.other d
 
 -- at some moment between the submit of op i and its ack the last finished round had disk d in a slot that the write
 -- goes to
-pub record WasMeant (start : Start) (log : List Call) (front : List Entry) (i : ℕ) (target : Target)
+pub record WasMeant (start : Start) (log : List Call) (front : List Entry) (i : ℕ) (target : VolumeWrite)
     (d : ℕ) : Type 0 where
   pub calls : ℕ
   pub early : List Entry
@@ -40,15 +40,15 @@ pub record WasMeant (start : Start) (log : List Call) (front : List Entry) (i : 
   pub moment : IsMoment log front calls early late
   pub submitted : has (is_submit i) early ≡ true
   pub finished : IsFinished start (take calls log) early block
-  pub slot : InPlace start block target.volume d (place_of (start.words.shape block target.volume) target.sector)
+  pub slot : InPlacement start block target.volume d (placement_of (start.words.shape block target.volume) target.sector)
 
 -- each such disk that has a fault is durably called failed on every working member
-abbrev pub IsRecorded : Start → List Call → List Entry → ℕ → Target → Type 0
+abbrev pub IsRecorded : Start → List Call → List Entry → ℕ → VolumeWrite → Type 0
 IsRecorded start log front i target =
     (d : ℕ) → WasMeant start log front i target d → is_faulty d front ≡ true
     → DurableOnWorking start log front (λ m. start.words.expects m (start.disks.serial d) ≡ false)
 
-abbrev pub IsRecordedFor : Start → List Call → List Entry → ℕ → Option Target → Type 0
+abbrev pub IsRecordedFor : Start → List Call → List Entry → ℕ → Option VolumeWrite → Type 0
 IsRecordedFor start log front i None = ⊤
 IsRecordedFor start log front i (Some target) = IsRecorded start log front i target
 
@@ -123,14 +123,14 @@ pass_from v found [] = found
 pass_from v found (e ∷ es) = pass_from v (pass_at v found e.stamp e.event) es
 
 -- op i names no sector of the volume that lies in this row
-abbrev pub IsNotAt : Option Place → ℕ → Type 0
+abbrev pub IsNotAt : Option Placement → ℕ → Type 0
 IsNotAt None row = ⊤
 IsNotAt (Some place) row = place.row ≡ row → ⊥
 
 abbrev pub IsElsewhere : Start → List Op → Laid → ℕ → ℕ → Type 0
 IsElsewhere start ops m v row =
     (i s : ℕ) (kind : _) → kind_at ops i ≡ Some kind → names_sector v kind ≡ Some s
-    → IsNotAt (place_of (start.words.shape m v) s) row
+    → IsNotAt (placement_of (start.words.shape m v) s) row
 
 -- a call that reads a row of the volume on one of its members
 pub record ReadsRow (start : Start) (m : Laid) (v row : ℕ) (call : Call) : Type 0 where

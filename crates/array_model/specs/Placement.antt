@@ -14,17 +14,17 @@ pub record Shape : Type 0 where
   pub rows : ℕ
 
 -- the slot of the data, the slot of its mirror or of the parity, and the row on both
-pub record Place : Type 0 where
+pub record Placement : Type 0 where
   pub main : ℕ
   pub other : ℕ
   pub row : ℕ
 
-abbrev pub place_by : Option Level → Shape → ℕ → Option Place
-place_by None shape s = None
-place_by (Some One) shape s = if nat_lt s shape.size then Some (record { main = 0; other = 1; row = s }) else None
-place_by (Some Five) shape s = None
-place_by (Some Ten) shape s = None
+abbrev pub placement_by : Option Level → Shape → ℕ → Option Placement
+placement_by None shape s = None
+placement_by (Some One) shape s = if nat_lt s shape.size then Some (record { main = 0; other = 1; row = s }) else None
+placement_by (Some Five) shape s = None
+placement_by (Some Ten) shape s = None
 
 -- where sector s lies
-abbrev pub place_of : Shape → ℕ → Option Place
-place_of shape s = place_by shape.level shape s
+abbrev pub placement_of : Shape → ℕ → Option Placement
+placement_of shape s = placement_by shape.level shape s

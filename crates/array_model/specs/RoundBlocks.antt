@@ -9,7 +9,7 @@ use Rattle.array_model.specs.declared.journal.Event.TheVariants.{Begin}
 use Rattle.array_model.specs.Blocks.{Laid}
 use Rattle.array_model.specs.Events.{AtEach}
 use Rattle.array_model.specs.Rounds.{IsFinished, IsRound}
-use Rattle.array_model.specs.Causes.{told_of, needs_dirty}
+use Rattle.array_model.specs.Causes.{array_state_of, needs_dirty}
 use Rattle.array_model.specs.Start.{Start}
 
 -- The block of a round that begins, whether or not the round ends, is that of the last finished round with the round's
@@ -17,7 +17,7 @@ use Rattle.array_model.specs.Start.{Start}
 abbrev pub BeginsRenewed : (Laid → ℕ → Bool → Laid) → Start → List Op → List Call → List Entry → ℕ → Event → Type 0
 BeginsRenewed renew start ops log front stamp (Begin g) =
     (m last : Laid) → IsRound start log stamp g m → IsFinished start (take stamp log) front last
-    → m ≡ renew last g (needs_dirty (told_of start ops front 0))
+    → m ≡ renew last g (needs_dirty (array_state_of start ops front 0))
 BeginsRenewed renew start ops log front stamp _ = ⊤
 
 abbrev pub RoundsAreRenewed : (Laid → ℕ → Bool → Laid) → Start → List Op → List Call → List Entry → Type 0

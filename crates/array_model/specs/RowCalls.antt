@@ -1,6 +1,6 @@
 -- The calls behind the answers of a run, and what each call of a run is made for. A write is done once its sector is
--- written and synced on the disks of its place, and a value comes from a read of its row. No call is made that neither
--- a round nor an operation under way asks for. Source: this project's own.
+-- written and synced on the disks of its placement, and a value comes from a read of its row. No call is made that
+-- neither a round nor an operation under way asks for. Source: this project's own.
 use Rattle.std.specs.Prelude.{◌≡◌, ℕ, ◌+◌, ◌<◌, ◌≤◌, true, false, List, [], ◌∷◌, length, slice_get, Option, Some, None, ⊤, ◌⊎◌}
 use Rattle.units.specs.declared.disk.Sector.{Sector}
 use Rattle.units.specs.declared.volume.VolNo.{VolNo}
@@ -14,23 +14,23 @@ use Rattle.array_model.specs.declared.journal.Event.{Event}
 use Rattle.array_model.specs.declared.journal.Event.TheVariants.{Ack}
 use Rattle.array_model.specs.declared.journal.Answer.{Answer}
 use Rattle.array_model.specs.declared.journal.Answer.TheVariants.{Done, Value, Past, Failed, NoSpare}
-use Rattle.array_model.specs.Script.{Target, kind_at, write_at}
+use Rattle.array_model.specs.Script.{VolumeWrite, kind_at, write_at}
 use Rattle.array_model.specs.Events.{AtEach, has, is_submit, is_ack_of, is_faulty, is_live, up_to}
 use Rattle.array_model.specs.Moments.{EachCall}
-use Rattle.array_model.specs.Placement.{Place, place_of}
-use Rattle.array_model.specs.FailureLaw.{InPlace}
+use Rattle.array_model.specs.Placement.{Placement, placement_of}
+use Rattle.array_model.specs.FailureLaw.{InPlacement}
 use Rattle.array_model.specs.AnswerLaw.{submitted_from}
 use Rattle.array_model.specs.Causes.{GoesOn, course_of}
 use Rattle.array_model.specs.Start.{Start}
 
 -- ROWS
 
--- sector s of volume v lies at this place of disk d: the disk stands in a slot of the sector's place, in the newest
+-- sector s of volume v lies at this place of disk d: the disk stands in a slot of the sector's placement, in the newest
 -- block at opening
 pub record IsRowOn (start : Start) (v s d place : ℕ) : Type 0 where
-  pub lies : Place
-  pub placed : place_of (start.words.shape start.newest v) s ≡ Some lies
-  pub slot : InPlace start start.newest v d (Some lies)
+  pub lies : Placement
+  pub placed : placement_of (start.words.shape start.newest v) s ≡ Some lies
+  pub slot : InPlacement start start.newest v d (Some lies)
   pub at_row : place ≡ (start.words.shape start.newest v).pba + lies.row
 
 -- call number k of the log asked this of disk d, and went through
@@ -58,9 +58,10 @@ pub record IsWrittenOn (log : List Call) (since stamp d place : ℕ) (x : Sector
   pub stays : (k : ℕ) (call : Call) → write < k → k < stamp → slice_get log k ≡ Some call → call.disk ≡ d
       → Spares place call.what
 
--- a write was done: so it went on some disk of its place, and on each that has no fault. Both slots of a place have the
--- sector itself: Placement has places of copies alone.
-pub record IsDone (start : Start) (log : List Call) (front : List Entry) (since stamp : ℕ) (t : Target) : Type 0 where
+-- a write was done: so it went on some disk of its placement, and on each that has no fault. Both slots of a placement
+-- have the sector itself: there are placements of copies alone.
+pub record IsDone (start : Start) (log : List Call) (front : List Entry) (since stamp : ℕ)
+    (t : VolumeWrite) : Type 0 where
   pub disk : ℕ
   pub at : ℕ
   pub row : IsRowOn start t.volume t.sector disk at
@@ -68,7 +69,7 @@ pub record IsDone (start : Start) (log : List Call) (front : List Entry) (since 
   pub each : (d place : ℕ) → IsRowOn start t.volume t.sector d place → is_faulty d front ≡ false
       → IsWrittenOn log since stamp d place t.value
 
--- between two stamps the row of a sector was read on a disk of its place
+-- between two stamps the row of a sector was read on a disk of its placement
 pub record IsRead (start : Start) (log : List Call) (since stamp v s : ℕ) : Type 0 where
   pub read : ℕ
   pub disk : ℕ
@@ -78,7 +79,7 @@ pub record IsRead (start : Start) (log : List Call) (since stamp v s : ℕ) : Ty
   pub row : IsRowOn start v s disk place
   pub went : WentAt log read disk (Read place)
 
-abbrev pub DoneFrom : Start → List Call → List Entry → (since stamp : ℕ) → Option Target → Type 0
+abbrev pub DoneFrom : Start → List Call → List Entry → (since stamp : ℕ) → Option VolumeWrite → Type 0
 DoneFrom start log front since stamp None = ⊤
 DoneFrom start log front since stamp (Some t) = IsDone start log front since stamp t
 
@@ -129,7 +130,7 @@ pub record IsUnderWay (front : List Entry) (i : ℕ) : Type 0 where
 pub record IsWriting (start : Start) (ops : List Op) (front : List Entry) (d place : ℕ) : Type 0 where
   pub op : ℕ
   pub under_way : IsUnderWay front op
-  pub target : Target
+  pub target : VolumeWrite
   pub asks : write_at ops op ≡ Some target
   pub live : is_live target.volume front ≡ true
   pub row : IsRowOn start target.volume target.sector d place

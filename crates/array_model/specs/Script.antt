@@ -19,15 +19,15 @@ abbrev pub sector_of : ℕ → Sector
 sector_of value = record { 0 = repeat 64 (big_bytes 8 value) }
 
 -- a sector of a volume, and what a write brings there
-pub record Target : Type 0 where
+pub record VolumeWrite : Type 0 where
   pub volume : ℕ
   pub sector : ℕ
   pub value : Sector
 
-abbrev pub target_of : OpKind → Option Target
-target_of (Write v s value) = Some (record { volume = v.0; sector = s; value = sector_of value })
-target_of (Read v s) = None
-target_of (Whole v) = None
+abbrev pub write_of : OpKind → Option VolumeWrite
+write_of (Write v s value) = Some (record { volume = v.0; sector = s; value = sector_of value })
+write_of (Read v s) = None
+write_of (Whole v) = None
 
 abbrev pub kind_in : Option Op → Option OpKind
 kind_in None = None
@@ -37,13 +37,13 @@ kind_in (Some op) = Some op.kind
 abbrev pub kind_at : List Op → ℕ → Option OpKind
 kind_at ops i = kind_in (slice_get ops i)
 
--- the target of op i, where it is a write
-abbrev pub target_in : Option OpKind → Option Target
-target_in None = None
-target_in (Some kind) = target_of kind
+-- where op i writes, and what, if it is a write
+abbrev pub write_in : Option OpKind → Option VolumeWrite
+write_in None = None
+write_in (Some kind) = write_of kind
 
-abbrev pub write_at : List Op → ℕ → Option Target
-write_at ops i = target_in (kind_at ops i)
+abbrev pub write_at : List Op → ℕ → Option VolumeWrite
+write_at ops i = write_in (kind_at ops i)
 
 abbrev pub is_of_client_in : ℕ → Option Op → Bool
 is_of_client_in c None = false
@@ -53,7 +53,7 @@ is_of_client_in c (Some op) = op.client == c
 abbrev pub is_of_client : List Op → ℕ → ℕ → Bool
 is_of_client ops c i = is_of_client_in c (slice_get ops i)
 
-abbrev pub is_at : ℕ → ℕ → Option Target → Bool
+abbrev pub is_at : ℕ → ℕ → Option VolumeWrite → Bool
 is_at v s None = false
 is_at v s (Some t) = (t.volume == v) && (t.sector == s)
 
@@ -61,7 +61,7 @@ is_at v s (Some t) = (t.volume == v) && (t.sector == s)
 abbrev pub is_write_to : List Op → ℕ → ℕ → ℕ → Bool
 is_write_to ops v s i = is_at v s (write_at ops i)
 
-abbrev pub is_in_volume : ℕ → Option Target → Bool
+abbrev pub is_in_volume : ℕ → Option VolumeWrite → Bool
 is_in_volume v None = false
 is_in_volume v (Some t) = t.volume == v
 

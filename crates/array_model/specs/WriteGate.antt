@@ -7,7 +7,7 @@ use Rattle.array_model.specs.declared.script.Op.{Op}
 use Rattle.array_model.specs.declared.journal.Entry.{Entry}
 use Rattle.array_model.specs.declared.journal.Event.{Event}
 use Rattle.array_model.specs.declared.journal.Event.TheVariants.{Active, Ack}
-use Rattle.array_model.specs.Script.{Target, write_at}
+use Rattle.array_model.specs.Script.{VolumeWrite, write_at}
 use Rattle.array_model.specs.Events.{AtEach, is_live, is_done}
 use Rattle.array_model.specs.Moments.{Always}
 use Rattle.array_model.specs.Rounds.{DurableOnWorking}
@@ -22,7 +22,7 @@ ActiveOver start calls front (Active v) = IsDirty start calls front v.0
 ActiveOver start calls front _ = ⊤
 
 -- of the volume's entries ready, pending, active and clean the last is active, where a write to it is done
-abbrev pub IsLiveFor : Option Target → List Entry → Type 0
+abbrev pub IsLiveFor : Option VolumeWrite → List Entry → Type 0
 IsLiveFor None front = ⊤
 IsLiveFor (Some target) front = is_live target.volume front ≡ true
 

@@ -1,11 +1,11 @@
 -- The verdict on a container whose disks are there as they were seen. Source: mdadm --incremental (Incremental.c)
 -- starts an array when the disks that its newest metadata names are there; the words are this project's own.
-use Rattle.std.specs.Prelude.{◌≡◌, ◌≢◌, ℕ, ◌+◌, ◌*◌, ◌<◌, ◌≤◌, ◌==◌, ◌⊎◌, if◌then◌else◌, List, [], map, length, Contains, slice_get, Some, ⊤}
+use Rattle.std.specs.Prelude.{◌≡◌, ◌≢◌, ℕ, ◌+◌, ◌<◌, ◌≤◌, ◌⊎◌, List, [], map, length, Contains, slice_get, Some, ⊤}
 use Rattle.std.specs.List.{AllByRecursion, sum_by}
 use Rattle.units.specs.declared.bounds.TheConstants.{FIRST_GENERATION_REFUSED, MAX_BLOCK_BYTES}
-use Rattle.imsm_base.specs.Layout.{Block, Volume, generation_of, map_count_of, member_count_of, size_of, volume_count_of}
+use Rattle.imsm_base.specs.Layout.{Block, generation_of, size_of, volume_count_of}
 use Rattle.imsm_base.specs.Parts.{block_in}
-use Rattle.imsm_base.specs.Volumes.{first_map}
+use Rattle.imsm_base.specs.Volumes.{second_map_bytes}
 use Rattle.imsm_base.specs.Whole.{IsWholeBlock}
 use Rattle.imsm_codec.specs.Mpb.{volume_at}
 use Rattle.imsm_buffer.specs.Buffer.{parts_of}
@@ -21,7 +21,7 @@ use Rattle.assembly.specs.Seen.{AreOf, arrived_of, containers_of}
 use Rattle.assembly.specs.declared.seen.Seen.{Seen}
 use Rattle.assembly.specs.declared.seen.SeenAs.{SeenAs}
 use Rattle.assembly.specs.declared.seen.SeenAs.TheVariants.{Whole, Blank, Torn, Unread}
-use Rattle.assembly.specs.declared.verdict.Opening.{Opening}
+use Rattle.assembly.specs.declared.verdict.Assembled.{Assembled}
 use Rattle.assembly.specs.declared.verdict.Verdict.{Verdict}
 use Rattle.assembly.specs.declared.verdict.Verdict.TheVariants.{Refused, Large, GenerationEnd, Waiting, Ready}
 
@@ -36,11 +36,8 @@ abbrev pub AreSound : List Seen → Type 0
 AreSound seen = AllByRecursion (λ (s : Seen). IsSound s.holds) seen
 
 -- how many bytes a block takes with a second map for each volume that has none
-abbrev pub map_room : Volume → ℕ
-map_room v = if map_count_of v == 1 then 48 + 4 * member_count_of (first_map v) else 0
-
 abbrev pub full_size : Block → ℕ
-full_size b = size_of b + sum_by map_room b.volumes
+full_size b = size_of b + sum_by second_map_bytes b.volumes
 
 -- no block of the disks is picked, for this reason
 pub record IsRefused (seen : List Seen) (fault : PickFault) : Type 0 where
@@ -56,8 +53,8 @@ pub record IsNewest (seen : List Seen) (p : Pick) (bytes : List ℕ) : Type 0 wh
   pub there : Contains (containers_of seen) (record { disk = p.disk.0; bytes = bytes })
   pub generation : generation_of (block_in bytes) ≡ p.generation
 
--- what is opened: the newest block, in room for every second map; a verdict on each volume; the role of each disk
-pub record IsOpening (bytes : List ℕ) (p : Pick) (arrived : List Arrived) (o : Opening) : Type 0 where
+-- what is assembled: the newest block, in room for every second map; a verdict on each volume; the role of each disk
+pub record IsAssembled (bytes : List ℕ) (p : Pick) (arrived : List Arrived) (o : Assembled) : Type 0 where
   pub book : o.book ≡ record { bytes = bytes; room = full_size (block_in bytes) }
   pub family : o.family ≡ p.family
   pub generation : o.generation ≡ p.generation
@@ -79,10 +76,10 @@ IsVerdictBy bytes p arrived (Waiting family generation list) =
     (family ≡ p.family) × (generation ≡ p.generation) × (full_size (block_in bytes) ≤ MAX_BLOCK_BYTES)
     × (generation < FIRST_GENERATION_REFUSED)
     × (list.items ≡ missing_of (block_in bytes) arrived) × (list.items ≢ [])
-IsVerdictBy bytes p arrived (Ready opening) =
+IsVerdictBy bytes p arrived (Ready assembled) =
     (full_size (block_in bytes) ≤ MAX_BLOCK_BYTES) × (p.generation < FIRST_GENERATION_REFUSED)
     × (missing_of (block_in bytes) arrived ≡ [])
-    × IsOpening bytes p arrived opening
+    × IsAssembled bytes p arrived assembled
 
 -- the verdict on the disks: no block is picked, or it is the one by the newest
 abbrev pub IsVerdict : List Seen → Verdict → Type 0

@@ -13,4 +13,4 @@ mod verdict;
 
 pub use judging::judge;
 pub use seen::{Seen, SeenAs};
-pub use verdict::{AssemblyFault, Opening, Verdict};
+pub use verdict::{Assembled, AssemblyFault, Verdict};

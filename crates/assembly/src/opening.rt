@@ -3,14 +3,15 @@ ghost use Rattle.std.specs.Prelude.{◌≡◌, ◌≤◌, ◌<◌, ℕ, map, len
 ghost use Rattle.std.specs.List.{sum_by};
 ghost use Rattle.units.specs.declared.bounds.TheConstants.{MAX_BLOCK_BYTES as MAX_BYTES};
 ghost use Rattle.imsm_base.specs.Layout.{volume_count_of};
+ghost use Rattle.imsm_base.specs.Volumes.{second_map_bytes};
 ghost use Rattle.imsm_base.specs.Whole.{IsWholeBlock};
 ghost use Rattle.imsm_codec.specs.Mpb.{block_bytes, block_of, volume_at};
 ghost use Rattle.disk_roles.specs.Roles.{role_of as role_by};
 ghost use Rattle.volume_verdict.specs.declared.verdict.VolumeVerdict.{VolumeVerdict as OnVolume};
 ghost use Rattle.volume_verdict.specs.Verdicts.{IsVolumeVerdict};
-ghost use Rattle.assembly.specs.Verdicts.{IsOpening, full_size, map_room};
+ghost use Rattle.assembly.specs.Verdicts.{IsAssembled, full_size};
 
-use crate::verdict::Opening;
+use crate::verdict::Assembled;
 use disk_roles::{Arrived, DiskRole, role_of};
 use generation_pick::Pick;
 use imsm_buffer::MpbBuf;
@@ -20,9 +21,9 @@ use units::VolNo;
 use volume_verdict::{VolumeVerdict, verdict_of};
 
 /// How many bytes a second map of a volume would take more.
-fn map_room(mpb: &MpbRef<'_>, v: VolNo) -> u16
+fn second_map_bytes(mpb: &MpbRef<'_>, v: VolNo) -> u16
     requires { v.0 < volume_count_of (block_of mpb.now) }
-    ensures room { result ≡ map_room (volume_at v.0 (block_of mpb.now)) }
+    ensures room { result ≡ second_map_bytes (volume_at v.0 (block_of mpb.now)) }
     ensures bound { result ≤ 1068 }
 {
     if mpb.maps(v) == 1 {
@@ -39,7 +40,7 @@ pub(crate) fn full_size(mpb: &MpbRef<'_>) -> u16
 {
     let mut size = mpb.size();
     for v in 0..mpb.volumes() {
-        size += map_room(mpb, VolNo(v));
+        size += second_map_bytes(mpb, VolNo(v));
     }
     size
 }
@@ -75,13 +76,13 @@ pub(crate) fn open(
     pick: &Pick,
     disks: &[Arrived],
     size: u16,
-) -> Result<Opening, AllocError>
+) -> Result<Assembled, AllocError>
     requires whole { IsWholeBlock (block_bytes mpb.now) (block_of mpb.now) }
     requires size { size ≡ full_size (block_of mpb.now) }
     requires fits { size ≤ MAX_BYTES }
-    ensures { IfOk result (IsOpening (block_bytes mpb.now) pick.now disks.now) }
+    ensures { IfOk result (IsAssembled (block_bytes mpb.now) pick.now disks.now) }
 {
-    Ok(Opening {
+    Ok(Assembled {
         book: MpbBuf::from_ref(alloc, mpb, size).map_err(|_| AllocError)?,
         family: pick.family,
         generation: pick.generation,

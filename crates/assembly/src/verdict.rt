@@ -30,14 +30,14 @@ pub enum Verdict {
         generation: u32,
         list: ArrayVec<Missing, MAX_DISKS>,
     },
-    /// The container is opened.
-    Ready(Opening),
+    /// The container is assembled.
+    Ready(Assembled),
 }
 
-/// A container that is opened: its newest block, in room for a second map of each volume; its family and generation;
+/// A container that is assembled: its newest block, in room for a second map of each volume; its family and generation;
 /// what is said of each volume; and the role of each disk, in the order of the disks.
 #[derive(Drop)]
-pub struct Opening {
+pub struct Assembled {
     pub book: MpbBuf,
     pub family: u32,
     pub generation: u32,

@@ -3,7 +3,7 @@ ghost use Rattle.std.specs.Prelude.{IfOk};
 ghost use Rattle.assembly.specs.Verdicts.{IsSound};
 
 use crate::mirror::serial;
-use assembly::{AssemblyFault, Opening, Seen, SeenAs, Verdict, judge};
+use assembly::{Assembled, AssemblyFault, Seen, SeenAs, Verdict, judge};
 use disk_roles::{DiskRole, Lack, Missing};
 use generation_pick::PickFault;
 use imsm_base::{get_u32, put_u32};
@@ -83,9 +83,9 @@ fn blank(disk: u8, letter: u8) -> Seen
     }
 }
 
-fn opened(rt: &impl Abort, verdict: Result<Verdict, AssemblyFault>) -> Opening {
+fn opened(rt: &impl Abort, verdict: Result<Verdict, AssemblyFault>) -> Assembled {
     match verdict {
-        Ok(Verdict::Ready(opening)) => opening,
+        Ok(Verdict::Ready(assembled)) => assembled,
         _ => panic!(rt; "not opened"),
     }
 }
@@ -118,13 +118,13 @@ fn a_mirror_is_opened_by_its_newest_block(rt: HostRuntime) -> Result<(), Fail> {
         whole(&rt, alloc, 3, b'B', 4096, &new)?,
         whole(&rt, alloc, 5, b'A', 4096, &old)?,
     ];
-    let opening = opened(&rt, judge(alloc, &seen));
-    assert_eq!(rt; opening.book.bytes(), new.as_slice());
-    assert_eq!(rt; (opening.family, opening.generation), (7, 2));
+    let assembled = opened(&rt, judge(alloc, &seen));
+    assert_eq!(rt; assembled.book.bytes(), new.as_slice());
+    assert_eq!(rt; (assembled.family, assembled.generation), (7, 2));
     let volumes = [VolumeVerdict::Started(None)];
-    assert_eq!(rt; opening.volumes.as_slice(), volumes.as_slice());
+    assert_eq!(rt; assembled.volumes.as_slice(), volumes.as_slice());
     let roles = [DiskRole::Blank, DiskRole::Member(1), DiskRole::Member(0)];
-    assert_eq!(rt; opening.disks.as_slice(), roles.as_slice());
+    assert_eq!(rt; assembled.disks.as_slice(), roles.as_slice());
     Ok(())
 }
 

@@ -12,10 +12,10 @@ use Rattle.units.specs.declared.bounds.TheConstants.{HEADER_BYTES, MAX_BLOCK_BYT
 use Rattle.imsm_base.specs.Fields.{Part, number_at}
 use Rattle.imsm_base.specs.Layout.{Block, Spells, signature_of, checksum_of, size_of, disk_count_of, volume_count_of, total_blocks_of}
 use Rattle.imsm_base.specs.Parts.{block_in, room_of}
-use Rattle.imsm_base.specs.Whole.{IsSize, AreCounts, AreApart, IsAcceptedTail, IsWholeBlock, IsWholeDisk, the_signature, block_sum, expected_serials, own_record}
+use Rattle.imsm_base.specs.Whole.{IsSize, AreCounts, AreApart, IsAcceptedTail, IsWholeBlock, IsWholeDisk, the_signature, block_sum, expected_serials, own_record, is_size}
 use Rattle.imsm_base.proofs.Joined.{block_in-spelled, room_of-spelled}
 use Rattle.imsm_base.proofs.Apart.{spells_apart}
-use Rattle.block_meaning.specs.Whole.{is_size, are_counts, are_apart, is_accepted_tail, is_headed, is_whole_block, is_whole_disk}
+use Rattle.block_meaning.specs.Whole.{are_counts, are_apart, is_accepted_tail, is_headed, is_whole_block, is_whole_disk}
 
 Decides-leb : (a b : ℕ) → Decides (nat_le a b) (a ≤ b)
 Decides-leb a b = (leb-true a b, le-leb a b)

@@ -10,7 +10,7 @@ use Rattle.imsm_base.specs.Layout.{Block, Volume, header_lengths, size_of, gener
 use Rattle.imsm_base.specs.Parts.{block_in}
 use Rattle.imsm_base.specs.Whole.{IsWholeBlock, IsWholeDisk, block_sum, expected_serials}
 use Rattle.units.specs.Places.{extended_count}
-use Rattle.imsm_base.specs.Volumes.{members, is_dirty, volume_fault}
+use Rattle.imsm_base.specs.Volumes.{members, is_dirty, volume_fault, pass_of}
 use Rattle.imsm_base.specs.Edits.{with_generation, with_dirty, sized, first_sector, block_with_generation, block_with_dirty, block_with_size, block_sealed}
 use Rattle.imsm_base.specs.FirstForm.{IsFirstForm}
 use Rattle.imsm_base.proofs.Joined.{block_in-spelled}
@@ -18,7 +18,7 @@ use Rattle.imsm_base.proofs.Spliced.{number_at-take, number_at-front}
 use Rattle.imsm_base.proofs.Edited.{fields_of, other_field, length-volumes_with_dirty, length-with_generation, generation-spells, dirty-length}
 use Rattle.imsm_base.proofs.Sealed.{IsUnsealed, unsealed_whole, generation-unsealed, dirty-unsealed, sealed-whole, length-sealed, number-four}
 use Rattle.array_model.specs.Blocks.{Laid}
-use Rattle.block_meaning.specs.Meaning.{bytes_of_laid, has_serial, of_volume, slot_words, pass_of}
+use Rattle.block_meaning.specs.Meaning.{bytes_of_laid, has_serial, of_volume, slot_words}
 use Rattle.array_model.specs.Renewal.{FitsGeneration, SaysSame, IsRenewable, IsRenewed}
 use Rattle.block_meaning.specs.Reading.{parts_of, block_words}
 use Rattle.block_meaning.specs.Renewed.{renewed_bytes, renewed}

@@ -1,16 +1,16 @@
 -- What the words of a block are, on its bytes: the words of imsm_base. Source: super-intel.c (imsm_super and what it
 -- holds). How a block lies on a disk is this project's own.
-use Rattle.std.specs.Prelude.{◌≡◌, ℕ, ◌+◌, ◌*◌, ◌==◌, ◌&&◌, ◌↔◌, nat_le, not, Bool, true, false, List, [], ◌++◌, length, map, take, flat_map, slice_get, Option, Some, None, is_none, sum_by, if◌then◌else◌}
+use Rattle.std.specs.Prelude.{◌≡◌, ℕ, ◌+◌, ◌==◌, ◌&&◌, ◌↔◌, nat_le, not, Bool, true, false, List, [], ◌++◌, length, map, take, flat_map, slice_get, None, is_none, sum_by}
 use Rattle.std.specs.List.{list_any}
 use Rattle.std.specs.Option.{option_map_or}
 use Rattle.std.specs.Str.{bytes_eq}
 use Rattle.units.specs.declared.disk.Sector.{Sector}
 use Rattle.units.specs.declared.bounds.TheConstants.{MAX_BLOCK_BYTES, MAX_DISKS}
 use Rattle.imsm_base.specs.Fields.{number_at}
-use Rattle.imsm_base.specs.Layout.{Block, Volume, size_of, family_of, disk_count_of, serial_of, volume_size_of, unit_of, migration_type_of, strip_of, pba_of, member_count_of, map_count_of}
+use Rattle.imsm_base.specs.Layout.{Block, Volume, size_of, family_of, disk_count_of, serial_of, volume_size_of, unit_of, strip_of, pba_of, member_count_of}
 use Rattle.imsm_base.specs.Whole.{IsWholeBlock, IsWholeDisk, expected_serials}
 use Rattle.units.specs.Places.{extended_count}
-use Rattle.imsm_base.specs.Volumes.{Member, members, first_map, is_expected_at, is_in_sync, is_dirty, has_pass, is_unfinished, can_run, volume_level, volume_rows, pass_start, volume_fault}
+use Rattle.imsm_base.specs.Volumes.{Member, members, first_map, is_expected_at, is_in_sync, is_dirty, is_unfinished, can_run, volume_level, volume_rows, pass_start, volume_fault, pass_of, second_map_bytes}
 use Rattle.array_model.specs.Placement.{Shape}
 use Rattle.array_model.specs.Blocks.{Laid, Words, SlotWords}
 
@@ -19,10 +19,6 @@ bytes_of_laid m = take (number_at 4 0x24 m.anchor.0) (m.anchor.0 ++ flat_map (λ
 
 abbrev pub has_serial : List (List ℕ) → List ℕ → Bool
 has_serial serials serial = list_any (λ s. bytes_eq s serial) serials
-
--- the bytes of a second map, for a volume that has none
-abbrev pub second_map_bytes : Volume → ℕ
-second_map_bytes v = if map_count_of v == 1 then 48 + 4 * member_count_of (first_map v) else 0
 
 -- with one record more, of 48 bytes, and all second maps the block is in its bounds
 abbrev pub is_small : Block → Bool
@@ -55,9 +51,6 @@ shape_of v = record {
 
 abbrev pub no_shape : Shape
 no_shape = record { level = None; members = 0; size = 0; strip = 0; pba = 0; rows = 0 }
-
-abbrev pub pass_of : Volume → Option ℕ
-pass_of v = if has_pass v then Some (migration_type_of v) else None
 
 -- of volume v, where it is there
 abbrev pub of_volume : {X : Type 0} → Block → ℕ → (Volume → X) → X → X

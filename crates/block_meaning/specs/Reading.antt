@@ -7,9 +7,9 @@ use Rattle.imsm_base.specs.Layout.{Block, family_of, serial_of, unit_of}
 use Rattle.imsm_base.specs.Parts.{block_in}
 use Rattle.imsm_base.specs.Whole.{expected_serials}
 use Rattle.units.specs.Places.{extended_count}
-use Rattle.imsm_base.specs.Volumes.{members, is_dirty, is_unfinished, can_run, pass_start, volume_fault}
+use Rattle.imsm_base.specs.Volumes.{members, is_dirty, is_unfinished, can_run, pass_start, volume_fault, pass_of}
 use Rattle.array_model.specs.Blocks.{Laid, Words}
-use Rattle.block_meaning.specs.Meaning.{bytes_of_laid, has_serial, has_place, is_small, of_volume, pass_of, shape_of, no_shape, slot_words}
+use Rattle.block_meaning.specs.Meaning.{bytes_of_laid, has_serial, has_place, is_small, of_volume, shape_of, no_shape, slot_words}
 use Rattle.block_meaning.specs.Whole.{is_whole_disk}
 
 abbrev pub parts_of : Laid → Block

@@ -1,17 +1,15 @@
 -- Whether bytes are a whole block, as a test of the parts that they are taken apart into.
 -- Source: load_imsm_mpb and parse_raid_devices of super-intel.c; the bounds are this project's own.
-use Rattle.std.specs.Prelude.{ℕ, ◌%◌, ◌==◌, ◌&&◌, ◌||◌, nat_le, not, Bool, true, false, List, [], ◌∷◌, length}
+use Rattle.std.specs.Prelude.{ℕ, ◌==◌, ◌&&◌, ◌||◌, nat_le, not, Bool, true, false, List, [], ◌∷◌, length}
 use Rattle.std.specs.List.{list_any}
 use Rattle.std.specs.Option.{option_map_or}
 use Rattle.std.specs.Str.{bytes_eq}
-use Rattle.units.specs.declared.bounds.TheConstants.{HEADER_BYTES, MAX_BLOCK_BYTES, MAX_DISKS, MAX_VOLUMES, METADATA_SECTORS}
+use Rattle.units.specs.declared.bounds.TheConstants.{MAX_DISKS, MAX_VOLUMES, METADATA_SECTORS}
+use Rattle.imsm_base.specs.declared.values.TheConstants.{LOG_SIGNATURE}
 use Rattle.imsm_base.specs.Fields.{number_at}
 use Rattle.imsm_base.specs.Layout.{Block, signature_of, checksum_of, size_of, disk_count_of, volume_count_of, total_blocks_of}
 use Rattle.imsm_base.specs.Parts.{room_of}
-use Rattle.imsm_base.specs.Whole.{the_signature, block_sum, expected_serials, own_record}
-
-abbrev pub is_size : ℕ → Bool
-is_size n = nat_le HEADER_BYTES n && nat_le n MAX_BLOCK_BYTES && (n % 4 == 0)
+use Rattle.imsm_base.specs.Whole.{the_signature, block_sum, expected_serials, own_record, is_size}
 
 abbrev pub are_counts : ℕ → ℕ → Bool
 are_counts disks volumes = nat_le 1 disks && nat_le disks MAX_DISKS && nat_le volumes MAX_VOLUMES
@@ -23,7 +21,7 @@ are_apart (x ∷ xs) = not (list_any (bytes_eq x) xs) && are_apart xs
 -- the mark of an empty bad-block log (BBM_LOG_SIGNATURE), or nothing
 abbrev pub is_accepted_tail : List ℕ → Bool
 is_accepted_tail bytes =
-    bytes_eq bytes [] || (nat_le 8 (length bytes) && (number_at 4 0 bytes == 0xabadb10c) && (number_at 4 4 bytes == 0))
+    bytes_eq bytes [] || (nat_le 8 (length bytes) && (number_at 4 0 bytes == LOG_SIGNATURE) && (number_at 4 4 bytes == 0))
 
 abbrev pub is_headed : List ℕ → Block → Bool
 is_headed bytes b =

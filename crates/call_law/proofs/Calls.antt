@@ -5,7 +5,7 @@ use Rattle.device_log.specs.Log.{Call, What}
 use Rattle.array_model.specs.declared.journal.Entry.{Entry}
 use Rattle.array_model.specs.declared.journal.Event.{Event}
 use Rattle.array_model.specs.Renewal.{FitsGeneration}
-use Rattle.stage_machine.specs.Setting.{Setting, Renews, has}
+use Rattle.stage_machine.specs.Setting.{Setting, Renews, has_disk}
 use Rattle.stage_machine.specs.Opens.{StandsOnAll}
 use Rattle.stage_machine.specs.Rounds.{Step, AtAnchor, AtSync, Phase, Rest, Going}
 use Rattle.stage_machine.specs.States.{asked_events}
@@ -65,7 +65,7 @@ allowed_is b (x ∷ xs) = let more = allowed_is b xs in omega (arith, more)
 
 -- A TURN
 
-some_member : (d : ℕ) (ms : List ℕ) → has d ms ≡ true → 1 ≤ length ms
+some_member : (d : ℕ) (ms : List ℕ) → has_disk d ms ≡ true → 1 ≤ length ms
 some_member d [] h = absurd cc
 some_member d (m ∷ ms) h = omega arith
 

@@ -13,12 +13,12 @@ use Rattle.array_model.specs.declared.journal.Answer.TheVariants.{Done, Value, P
 use Rattle.array_model.specs.Script.{kind_at}
 use Rattle.array_model.specs.Events.{AtEachFrom}
 use Rattle.array_model.specs.Renewal.{FitsGeneration}
-use Rattle.array_model.specs.Causes.{note_of, GoesOn, course_of, recorded_of, is_woken, ToldClosed, woken, told_of, size_of, IsTold, IsReady, IsAskedFor, IsAnswerTo, IsCaused, AreCaused}
+use Rattle.array_model.specs.Causes.{note_of, GoesOn, course_of, recorded_of, is_woken, ArrayClosed, woken, array_state_of, size_of, IsInState, IsReady, IsAskedFor, IsAnswerTo, IsCaused, AreCaused}
 use Rattle.array_model.proofs.Journals.{at_each_more}
 use Rattle.stage_machine.specs.Setting.{Setting, Renews}
 use Rattle.stage_machine.specs.Opens.{AsksFirst, StandsOnAll, IsFirstVolume}
 use Rattle.stage_machine.specs.States.{State, IsReadonly, IsReadAuto, IsClean, IsPending, IsActive, IsIdle, is_readonly, asked_events}
-use Rattle.stage_machine.specs.Jobs.{place_at, is_write, is_write_kind, Answers}
+use Rattle.stage_machine.specs.Jobs.{placement_at, is_write, is_write_kind, Answers}
 use Rattle.stage_machine.specs.Machine.{Control, World, Reached, opens, goes, stamped, calls_after, turned, call_of, got_of}
 use Rattle.stage_machine.proofs.Turns.{Turns, turns_of, IsPast, is_row_kind, nothing, fails, anchors, settles, ends, begins, readies, actives, cleans, rests, pasts, asks_read, asks_write, puts, syncs, gets, acks}
 use Rattle.stage_machine.proofs.Clients.{Mine, mine_reached, of_job, kind_first}
@@ -31,7 +31,7 @@ use Rattle.cause_law.proofs.Answered.{AreShown, shown_reached, all_answered}
 
 -- what the journal tells, and what the clients do
 pub record Kept (S : Setting) (c : Control) (journal : List Entry) : Type 0 where
-  pub state : told_of S.start S.asked.ops journal 0 ≡ told_by c.state
+  pub state : array_state_of S.start S.asked.ops journal 0 ≡ told_by c.state
   pub note : note_of S.start journal ≡ c.round.note
   pub course : course_of journal ≡ course_by c.round
   pub generation : HasNote S c.round.note c.round.phase
@@ -73,7 +73,7 @@ module _ (S : Setting) (asks : AsksFirst S) (volume : IsFirstVolume S) (front : 
           above v.0 s (kind_first S.asked.ops i _ asks.volumes is) (sym (op_placed S volume i _ is) ∙ ap (λ p. is_place p) past.none)
       at (Some (OpWhole v)) is row = absurd cc
 
-  done_caused : is_place (place_at S i) ≡ true → is_write S i ≡ true → IsAnswerTo S.start front (kind_at S.asked.ops i) Done
+  done_caused : is_place (placement_at S i) ≡ true → is_write S i ≡ true → IsAnswerTo S.start front (kind_at S.asked.ops i) Done
   done_caused placed w = at (kind_at S.asked.ops i) refl w
     where
       at : (kind : Option OpKind) → kind_at S.asked.ops i ≡ kind → is_write_kind kind ≡ true → IsAnswerTo S.start front kind Done
@@ -82,7 +82,7 @@ module _ (S : Setting) (asks : AsksFirst S) (volume : IsFirstVolume S) (front : 
       at (Some (OpRead v s)) is w = absurd cc
       at (Some (OpWhole v)) is w = absurd cc
 
-  value_caused : (x : Sector) → is_place (place_at S i) ≡ true → is_read S i ≡ true → IsAnswerTo S.start front (kind_at S.asked.ops i) (Value x)
+  value_caused : (x : Sector) → is_place (placement_at S i) ≡ true → is_read S i ≡ true → IsAnswerTo S.start front (kind_at S.asked.ops i) (Value x)
   value_caused x placed r = at (kind_at S.asked.ops i) refl r
     where
       at : (kind : Option OpKind) → kind_at S.asked.ops i ≡ kind → is_read_kind kind ≡ true → IsAnswerTo S.start front kind (Value x)
@@ -92,7 +92,7 @@ module _ (S : Setting) (asks : AsksFirst S) (volume : IsFirstVolume S) (front : 
       at (Some (OpWhole v)) is r = absurd cc
 
   -- a job answers as its operation asks
-  answer_caused : (answer : Answer) → is_place (place_at S i) ≡ true → NeedFits S i (Answers answer) → IsAnswerTo S.start front (kind_at S.asked.ops i) answer
+  answer_caused : (answer : Answer) → is_place (placement_at S i) ≡ true → NeedFits S i (Answers answer) → IsAnswerTo S.start front (kind_at S.asked.ops i) answer
   answer_caused Done placed h = done_caused placed h
   answer_caused (Value x) placed h = value_caused x placed h
   answer_caused Past placed h = absurd h
@@ -107,7 +107,7 @@ write_row (Some (OpWrite v s value)) w = refl
 write_row (Some (OpRead v s)) w = absurd cc
 write_row (Some (OpWhole v)) w = absurd cc
 
-not_closed : (state : State) → is_readonly state ≡ false → told_by state ≡ ToldClosed → ⊥
+not_closed : (state : State) → is_readonly state ≡ false → told_by state ≡ ArrayClosed → ⊥
 not_closed IsReadonly ready closed = absurd cc
 not_closed IsReadAuto ready closed = absurd cc
 not_closed IsClean ready closed = absurd cc
@@ -116,7 +116,7 @@ not_closed IsActive ready closed = absurd cc
 not_closed IsIdle ready closed = absurd cc
 
 module _ (S : Setting) (asks : AsksFirst S) (volume : IsFirstVolume S) (c : Control) (got : Sector) (n : ℕ) (journal : List Entry) (kept : Kept S c journal) where
-  is_told : (state : State) → c.state ≡ state → IsTold S.start S.asked.ops journal 0 (told_by state)
+  is_told : (state : State) → c.state ≡ state → IsInState S.start S.asked.ops journal 0 (told_by state)
   is_told state is = record { started = volume.started; state = kept.state ∙ ap told_by is }
 
   -- an operation is submitted where the volume is ready
@@ -162,7 +162,7 @@ module _ (S : Setting) (asks : AsksFirst S) (volume : IsFirstVolume S) (c : Cont
       wakes : is_woken S.start S.asked.ops behind 0 ≡ true
       wakes = woken_by S.start S.asked.ops 0 n i journal (inside_of S asks volume i w (ap (λ p. is_place p) is))
 
-      told_behind : (state : State) → c.state ≡ state → woken (told_by state) ≡ told_by state → IsTold S.start S.asked.ops behind 0 (told_by state)
+      told_behind : (state : State) → c.state ≡ state → woken (told_by state) ≡ told_by state → IsInState S.start S.asked.ops behind 0 (told_by state)
       told_behind state t stays = record { started = volume.started; state = told_asked S.start S.asked.ops 0 (told_by state) journal n i (kept.state ∙ ap told_by t) stays }
 
       at : (state : State) → c.state ≡ state → AtEachFrom (λ front e. Caused front e.event) behind (stamped n (asked_events state))

@@ -8,7 +8,7 @@ use Rattle.array_model.specs.declared.journal.Event.{Event}
 use Rattle.array_model.specs.declared.journal.Event.TheVariants.{Submit}
 use Rattle.array_model.specs.Renewal.{FitsGeneration}
 use Rattle.array_model.specs.Start.{Start}
-use Rattle.array_model.specs.Causes.{Told, ToldClosed, told_at, told_from, told_of, needs_dirty, recorded_at, recorded_from, recorded_of, IsDueIn, IsDueBy, IsDue, course_of, wakes_at, wakes_from, is_woken}
+use Rattle.array_model.specs.Causes.{ArrayState, ArrayClosed, array_state_at, array_state_from, array_state_of, needs_dirty, recorded_at, recorded_from, recorded_of, IsDueIn, IsDueBy, IsDue, course_of, wakes_at, wakes_from, is_woken}
 use Rattle.stage_machine.specs.Setting.{Setting, Renews}
 use Rattle.stage_machine.specs.Opens.{AsksFirst, StandsOnAll, IsFirstVolume}
 use Rattle.stage_machine.specs.Rounds.{AtAnchor, AtSync, Phase, Rest, Going, Round}
@@ -37,10 +37,10 @@ RecordsIn S r (Going m step left) recorded = recorded ≡ S.start.words.is_dirty
 abbrev pub Records : Setting → Round → Bool → Type 0
 Records S r recorded = RecordsIn S r r.phase recorded
 
-recorded-append : (start : Start) (ops : List Op) (told : Told) (b : Bool) (xs ys : List Entry)
-    → recorded_from start ops told b (xs ++ ys) ≡ recorded_from start ops (told_from start ops 0 told xs) (recorded_from start ops told b xs) ys
+recorded-append : (start : Start) (ops : List Op) (told : ArrayState) (b : Bool) (xs ys : List Entry)
+    → recorded_from start ops told b (xs ++ ys) ≡ recorded_from start ops (array_state_from start ops 0 told xs) (recorded_from start ops told b xs) ys
 recorded-append start ops told b [] ys = refl
-recorded-append start ops told b (x ∷ xs) ys = recorded-append start ops (told_at start ops 0 told x.event) (recorded_at told b x.event) xs ys
+recorded-append start ops told b (x ∷ xs) ys = recorded-append start ops (array_state_at start ops 0 told x.event) (recorded_at told b x.event) xs ys
 
 module _ (S : Setting) (renews : Renews S) (on : StandsOnAll S) (c : Control) (good : GoodRound S c.round) (recorded : Bool) (old : Records S c.round recorded) (n : ℕ) where
   abbrev record_now : List Event → Bool
@@ -86,7 +86,7 @@ records_reached S asks renews on volume w fits (goes {w = v} r a) =
     let new = stamped n (turned S v.control a).events in
     let told = told_reached S asks volume v r in
     subst (Records S (turned S v.control a).next.round)
-    (sym (recorded-append S.start S.asked.ops ToldClosed false v.journal new ∙ ap (λ t. recorded_from S.start S.asked.ops t (recorded_of S.start S.asked.ops v.journal) new) told))
+    (sym (recorded-append S.start S.asked.ops ArrayClosed false v.journal new ∙ ap (λ t. recorded_from S.start S.asked.ops t (recorded_of S.start S.asked.ops v.journal) new) told))
     (records_turns S renews on v.control (good_reached S renews on v before r) (recorded_of S.start S.asked.ops v.journal) (records_reached S asks renews on volume v before r) n
     (got_of a) (turns_of S v.control a) fits)
 
@@ -101,11 +101,11 @@ due_in IsPending false h = refl
 due_in IsActive dirty h = absurd cc
 due_in IsIdle dirty h = absurd cc
 
-pub begins_due : (S : Setting) (c : Control) (journal : List Entry) → told_of S.start S.asked.ops journal 0 ≡ told_by c.state → course_of journal ≡ resting_course c.round.started
+pub begins_due : (S : Setting) (c : Control) (journal : List Entry) → array_state_of S.start S.asked.ops journal 0 ≡ told_by c.state → course_of journal ≡ resting_course c.round.started
     → Records S c.round (recorded_of S.start S.asked.ops journal) → c.round.phase ≡ Rest
     → (c.round.started ≡ false) ⊎ (is_due c.state (S.start.words.is_dirty c.round.book 0) ≡ true) → IsDue S.start S.asked.ops journal
 begins_due S c journal told course records rest why =
-    subst (λ k. IsDueBy k (told_of S.start S.asked.ops journal 0) (recorded_of S.start S.asked.ops journal)) (sym course) (at c.round.started refl)
+    subst (λ k. IsDueBy k (array_state_of S.start S.asked.ops journal 0) (recorded_of S.start S.asked.ops journal)) (sym course) (at c.round.started refl)
   where
     due : c.round.started ≡ true → is_due c.state (S.start.words.is_dirty c.round.book 0) ≡ true
     due yet = elim why [
@@ -113,7 +113,7 @@ begins_due S c journal told course records rest why =
       | inr is ↦ is
     ]
 
-    at : (started : Bool) → c.round.started ≡ started → IsDueBy (resting_course started) (told_of S.start S.asked.ops journal 0) (recorded_of S.start S.asked.ops journal)
+    at : (started : Bool) → c.round.started ≡ started → IsDueBy (resting_course started) (array_state_of S.start S.asked.ops journal 0) (recorded_of S.start S.asked.ops journal)
     at false never = tt
     at true yet =
         let recorded : recorded_of S.start S.asked.ops journal ≡ S.start.words.is_dirty c.round.book 0 = subst (λ p. RecordsIn S c.round p (recorded_of S.start S.asked.ops journal)) rest records yet in

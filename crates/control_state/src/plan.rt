@@ -2,7 +2,7 @@
 ghost use Rattle.std.specs.Prelude.{◌≡◌, ◌+◌, ◌≤◌, ◌++◌, length, take, drop, is_some};
 ghost use Rattle.byteorder.specs.Endian.{big_bytes};
 ghost use Rattle.array_model.specs.Script.{kind_at, sector_of};
-ghost use Rattle.stage_machine.specs.Jobs.{row_at, is_write, place_at, value_at, value_in, sector_in};
+ghost use Rattle.stage_machine.specs.Jobs.{row_at, is_write, placement_at, value_at, value_in, sector_in};
 ghost use Rattle.control_state.specs.Seen.{plan_setting};
 
 use array_model::{Op, OpKind};
@@ -86,7 +86,7 @@ impl Plan {
 
     /// Whether an operation names a sector of the volume.
     pub fn is_placed(&self, op: u64) -> bool
-        ensures { result ≡ is_some (place_at (plan_setting self.now) op) }
+        ensures { result ≡ is_some (placement_at (plan_setting self.now) op) }
     {
         sector_named(self.kind(op)) < self.size
     }

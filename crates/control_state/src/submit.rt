@@ -1,6 +1,6 @@
 //! How a client's next operation is submitted.
 ghost use Rattle.std.specs.Prelude.{◌≡◌, ◌+◌, ◌^◌, ◌<◌, length};
-ghost use Rattle.stage_machine.specs.Jobs.{client_at, place_at};
+ghost use Rattle.stage_machine.specs.Jobs.{client_at, placement_at};
 ghost use Rattle.stage_machine.specs.States.{is_readonly};
 ghost use Rattle.stage_machine.specs.Machine as machine;
 ghost use Rattle.control_state.specs.Seen.{plan_setting, state_of, left_from};
@@ -42,7 +42,7 @@ impl Control {
         requires op { op < length plan.now.ops.items }
         ensures { out_of plan.now self.new result
             ≡ machine.submit_write (control_of plan.now self.old) k op (left_from plan.now.ops.items number (op + 1))
-            (place_at (plan_setting plan.now) op) }
+            (placement_at (plan_setting plan.now) op) }
     {
         if !plan.is_placed(op) {
             return self.past(plan, k, number, op);
@@ -63,7 +63,7 @@ impl Control {
         requires op { op < length plan.now.ops.items }
         ensures { out_of plan.now self.new result
             ≡ machine.submit_read (control_of plan.now self.old) k op (left_from plan.now.ops.items number (op + 1))
-            (place_at (plan_setting plan.now) op) }
+            (placement_at (plan_setting plan.now) op) }
     {
         if !plan.is_placed(op) {
             return self.past(plan, k, number, op);

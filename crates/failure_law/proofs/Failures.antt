@@ -5,7 +5,7 @@ use Rattle.device_log.specs.Log.{Call}
 use Rattle.array_model.specs.declared.journal.Entry.{Entry}
 use Rattle.array_model.specs.declared.journal.Event.{Event}
 use Rattle.array_model.specs.declared.journal.Event.TheVariants.{Begin, Pass, Ack, Applied, Fault, Kill, Takeover}
-use Rattle.array_model.specs.Script.{Target, write_at}
+use Rattle.array_model.specs.Script.{VolumeWrite, write_at}
 use Rattle.array_model.specs.Blocks.{SlotWords}
 use Rattle.array_model.specs.Renewal.{FitsGeneration}
 use Rattle.array_model.specs.Events.{AtEachFrom, last_stamp, stamp_from}
@@ -31,7 +31,7 @@ each_ours P holds front (e ∷ es) ours more =
 acks_over : (S : Setting) (log : List Call) (front : List Entry) (e : Event) → AreOurs front → AckOverFaults S.start S.asked.ops log front e
 acks_over S log front (Ack i answer) ours = λ done. at (write_at S.asked.ops i)
   where
-    at : (target : Option Target) → IsRecordedFor S.start log front i target
+    at : (target : Option VolumeWrite) → IsRecordedFor S.start log front i target
     at None = tt
     at (Some target) = λ d meant faulty. absurd (let sound = none_faulty d front ours in cc (sound, faulty))
 acks_over S log front _ ours = tt

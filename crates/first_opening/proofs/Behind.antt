@@ -8,11 +8,11 @@ use Rattle.imsm_base.specs.Layout.{Block}
 use Rattle.imsm_base.specs.Parts.{block_in}
 use Rattle.imsm_base.specs.Whole.{expected_serials}
 use Rattle.units.specs.Places.{extended_count}
-use Rattle.imsm_base.specs.Volumes.{members, is_dirty, volume_fault}
+use Rattle.imsm_base.specs.Volumes.{members, is_dirty, volume_fault, pass_of}
 use Rattle.imsm_base.proofs.Spliced.{number_at-take}
 use Rattle.imsm_codec.specs.Given.{size_in, given_block}
 use Rattle.array_model.specs.Blocks.{Laid}
-use Rattle.block_meaning.specs.Meaning.{bytes_of_laid, has_serial, of_volume, pass_of, slot_words}
+use Rattle.block_meaning.specs.Meaning.{bytes_of_laid, has_serial, of_volume, slot_words}
 use Rattle.array_model.specs.Renewal.{SaysSame}
 use Rattle.block_meaning.specs.Reading.{parts_of, block_words}
 use Rattle.block_meaning.specs.Whole.{is_whole_disk}

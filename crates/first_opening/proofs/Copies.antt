@@ -13,7 +13,7 @@ use Rattle.array_model.specs.Blocks.{sector_eq}
 use Rattle.array_model.specs.Placement.{Shape}
 use Rattle.array_model.specs.Script.{Asked}
 use Rattle.block_meaning.specs.Reading.{block_words}
-use Rattle.stage_machine.specs.Setting.{has}
+use Rattle.stage_machine.specs.Setting.{has_disk}
 use Rattle.stage_machine.specs.Opens.{HoldsContent}
 use Rattle.first_opening.specs.Opened.{Opened, IsOpening, newest_of, block_of, numbers_of, setting_of}
 use Rattle.first_opening.specs.Copies.{HoldsCopies, AreCopies, copy_on, first_copy, differs}
@@ -34,12 +34,12 @@ holds-content o asked content unsure is copies s d below sure member =
 
 -- THE FIRST COPY
 
-none-passes : (p : ℕ → Bool) (d : ℕ) (xs : List ℕ) → list_any p xs ≡ false → has d xs ≡ true → p d ≡ false
+none-passes : (p : ℕ → Bool) (d : ℕ) (xs : List ℕ) → list_any p xs ≡ false → has_disk d xs ≡ true → p d ≡ false
 none-passes p d [] none there = absurd (false≢true there)
 none-passes p d (x ∷ xs) none there =
     let parts = or_parts (p x) (list_any p xs) none in at (x == d) refl there parts.0 (none-passes p d xs parts.1)
   where
-    at : (b : Bool) → (x == d) ≡ b → (b || has d xs) ≡ true → p x ≡ false → (has d xs ≡ true → p d ≡ false) → p d ≡ false
+    at : (b : Bool) → (x == d) ≡ b → (b || has_disk d xs) ≡ true → p x ≡ false → (has_disk d xs ≡ true → p d ≡ false) → p d ≡ false
     at true same there first rest = subst (λ (k : ℕ). p k ≡ false) (eqb-true x d same) first
     at false other there first rest = rest there
 

@@ -24,7 +24,7 @@ use Rattle.block_meaning.specs.Reading.{parts_of, block_words}
 use Rattle.block_meaning.specs.Renewed.{renewed, renewed_bytes}
 use Rattle.block_meaning.proofs.Decided.{disk-decided}
 use Rattle.block_meaning.proofs.Renewal.{first-form}
-use Rattle.stage_machine.specs.Setting.{has}
+use Rattle.stage_machine.specs.Setting.{has_disk}
 use Rattle.stage_machine.specs.Opens.{SaysAll, StandsOnAll}
 use Rattle.first_opening.specs.Opened.{Opened, IsOpening, serial_at, newest_of, block_of, numbers_of, targets_of, setting_of}
 use Rattle.first_opening.proofs.Behind.{alone_in, bytes-alone, says-all}
@@ -114,21 +114,21 @@ expects-none o d is past =
     no-serial (s ∷ ss) zero past = absurd (omega arith)
     no-serial (s ∷ ss) (suc k) past = no-serial ss k (omega arith)
 
-pub target-below : (o : Opened) (d : ℕ) → has d (targets_of o) ≡ true → d < length o.serials
+pub target-below : (o : Opened) (d : ℕ) → has_disk d (targets_of o) ≡ true → d < length o.serials
 target-below o d target =
-    let both = and_parts (has d (numbers_of o)) _ (sym (has-filter d (λ k. block_words.expects (newest_of o) (serial_at o k)) (numbers_of o)) ∙ target) in
+    let both = and_parts (has_disk d (numbers_of o)) _ (sym (has-filter d (λ k. block_words.expects (newest_of o) (serial_at o k)) (numbers_of o)) ∙ target) in
     omega (arith, below-range d 0 (length o.serials) both.0)
 
-expected-is : (o : Opened) (d : ℕ) → IsOpening o → block_words.expects (newest_of o) (serial_at o d) ≡ has d (targets_of o)
+expected-is : (o : Opened) (d : ℕ) → IsOpening o → block_words.expects (newest_of o) (serial_at o d) ≡ has_disk d (targets_of o)
 expected-is o d is = at (nat_lt d (length o.serials)) refl ∙ sym (has-filter d (λ k. block_words.expects (newest_of o) (serial_at o k)) (numbers_of o))
   where
-    at : (b : Bool) → nat_lt d (length o.serials) ≡ b → block_words.expects (newest_of o) (serial_at o d) ≡ (has d (numbers_of o) && block_words.expects (newest_of o) (serial_at o d))
+    at : (b : Bool) → nat_lt d (length o.serials) ≡ b → block_words.expects (newest_of o) (serial_at o d) ≡ (has_disk d (numbers_of o) && block_words.expects (newest_of o) (serial_at o d))
     at true below = sym (ap (λ (b : Bool). b && block_words.expects (newest_of o) (serial_at o d)) (range-has d 0 (length o.serials) (omega arith) (omega (arith, ltb-true d (length o.serials) below))))
     at false past =
         let none : block_words.expects (newest_of o) (serial_at o d) ≡ false = expects-none o d is (ltb-false d (length o.serials) past) in
-        none ∙ sym (and_right (has d (numbers_of o)) (block_words.expects (newest_of o) (serial_at o d)) none)
+        none ∙ sym (and_right (has_disk d (numbers_of o)) (block_words.expects (newest_of o) (serial_at o d)) none)
 
-pub is-target : (o : Opened) (d : ℕ) → IsOpening o → d < length o.serials → has d (targets_of o) ≡ true
+pub is-target : (o : Opened) (d : ℕ) → IsOpening o → d < length o.serials → has_disk d (targets_of o) ≡ true
 is-target o d is below = sym (expected-is o d is) ∙ expects-each o d is below
 
 pub targets-are : (o : Opened) → IsOpening o → targets_of o ≡ numbers_of o

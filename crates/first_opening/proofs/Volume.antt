@@ -12,16 +12,16 @@ use Rattle.units.specs.declared.disk.Sector.{Sector}
 use Rattle.imsm_base.specs.Fields.{Part}
 use Rattle.imsm_base.specs.Layout.{Block, Volume, serial_of, disk_count_of, volume_size_of, strip_of, pba_of, member_count_of, migration_type_of, total_blocks_of}
 use Rattle.imsm_base.specs.Parts.{block_in}
-use Rattle.imsm_base.specs.Volumes.{Member, first_map, member, members, is_in_sync, is_like, has_geometry, has_sectors, volume_rows}
+use Rattle.imsm_base.specs.Volumes.{Member, first_map, member, members, is_in_sync, is_like, has_geometry, has_sectors, volume_rows, pass_of}
 use Rattle.units.specs.Levels.{rows_of}
 use Rattle.imsm_base.specs.FirstForm.{IsCleanMirror}
 use Rattle.imsm_codec.proofs.Mirror.{AreMirrorTests, tests_from_mirror, members_two, mirror_slots, mirror_out}
 use Rattle.array_model.specs.Blocks.{SlotWords}
-use Rattle.block_meaning.specs.Meaning.{of_volume, pass_of, shape_of, no_shape, slot_words}
+use Rattle.block_meaning.specs.Meaning.{of_volume, shape_of, no_shape, slot_words}
 use Rattle.array_model.specs.Placement.{Shape}
 use Rattle.array_model.specs.Script.{Asked}
 use Rattle.block_meaning.specs.Reading.{block_words}
-use Rattle.stage_machine.specs.Setting.{has}
+use Rattle.stage_machine.specs.Setting.{has_disk}
 use Rattle.stage_machine.specs.Opens.{IsFirstVolume}
 use Rattle.first_opening.specs.Opened.{Opened, IsOpening, serial_at, newest_of, block_of, numbers_of, disks_in_slot, members_of, setting_of}
 use Rattle.first_opening.proofs.Numbers.{has-filter, below-range, range-has, in-one, in-flat}
@@ -132,10 +132,10 @@ pub record IsInVolume (o : Opened) (d : ℕ) : Type 0 where
   pub same : words.serial ≡ serial_at o d
   pub below : d < length o.serials
 
-pub in-volume : (o : Opened) (d : ℕ) → has d (members_of o) ≡ true → IsInVolume o d
+pub in-volume : (o : Opened) (d : ℕ) → has_disk d (members_of o) ≡ true → IsInVolume o d
 in-volume o d is =
     let one = in-one (disks_in_slot o) d (block_words.slots (newest_of o) 0) is in
-    let both = and_parts (has d (numbers_of o)) _ (sym (has-filter d (λ k. bytes_eq one.1.serial (serial_at o k)) (numbers_of o)) ∙ one.3) in
+    let both = and_parts (has_disk d (numbers_of o)) _ (sym (has-filter d (λ k. bytes_eq one.1.serial (serial_at o k)) (numbers_of o)) ∙ one.3) in
     record {
       slot = one.0;
       words = one.1;
@@ -171,10 +171,10 @@ slot-speaks o is slot words there none = at slot (sym (ap (λ (ws : List SlotWor
     at (suc (suc k)) e = absurd cc
 
 -- the disk that has it is one of the volume
-in-slot : (o : Opened) (is : IsOpening o) (slot d : ℕ) (words : SlotWords) → slice_get (block_words.slots (newest_of o) 0) slot ≡ Some words → words.serial ≡ serial_at o d → has d (members_of o) ≡ true
+in-slot : (o : Opened) (is : IsOpening o) (slot d : ℕ) (words : SlotWords) → slice_get (block_words.slots (newest_of o) 0) slot ≡ Some words → words.serial ≡ serial_at o d → has_disk d (members_of o) ≡ true
 in-slot o is slot d words there same = at (nat_lt d (length o.serials)) refl
   where
-    at : (b : Bool) → nat_lt d (length o.serials) ≡ b → has d (members_of o) ≡ true
+    at : (b : Bool) → nat_lt d (length o.serials) ≡ b → has_disk d (members_of o) ≡ true
     at true below =
         in-flat (disks_in_slot o) d (block_words.slots (newest_of o) 0) slot words there (
         has-filter d (λ k. bytes_eq words.serial (serial_at o k)) (numbers_of o)

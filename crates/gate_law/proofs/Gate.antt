@@ -10,7 +10,7 @@ use Rattle.array_model.specs.declared.script.OpKind.TheVariants.{Write as OpWrit
 use Rattle.array_model.specs.declared.journal.Entry.{Entry}
 use Rattle.array_model.specs.declared.journal.Event.{Event}
 use Rattle.array_model.specs.declared.journal.Event.TheVariants.{Submit}
-use Rattle.array_model.specs.Script.{kind_at, write_at, target_in}
+use Rattle.array_model.specs.Script.{kind_at, write_at, write_in}
 use Rattle.array_model.specs.Blocks.{Laid}
 use Rattle.array_model.specs.Events.{AtEachFrom, is_live, live_at, live_from}
 use Rattle.array_model.specs.Moments.{AllBelow}
@@ -18,7 +18,7 @@ use Rattle.array_model.specs.Rounds.{DurableOnWorking}
 use Rattle.array_model.specs.WriteGate.{WriteGate, IsDirty, ActiveOver, AckWhileLive, IsLiveFor, DirtyWhileLive}
 use Rattle.array_model.proofs.Journals.{at_each_more, all_first}
 use Rattle.array_model.specs.Renewal.{FitsGeneration}
-use Rattle.stage_machine.specs.Setting.{Setting, Renews, has}
+use Rattle.stage_machine.specs.Setting.{Setting, Renews, has_disk}
 use Rattle.stage_machine.specs.Opens.{AsksFirst, StandsOnAll, IsFirstVolume}
 use Rattle.stage_machine.specs.Rounds.{Step, Phase, Rest, Going}
 use Rattle.stage_machine.specs.States.{State, IsReadonly, IsReadAuto, IsClean, IsPending, IsActive, IsIdle, asked_events}
@@ -88,9 +88,9 @@ calm_turns S c got (readies is s t) = inr ((λ b h. absurd cc), tt)
 calm_turns S c got (actives is s t r) = inl (record { rest = is; dirty = r })
 calm_turns S c got (cleans is s t) = inr ((λ b h. absurd cc), tt)
 calm_turns S c got (rests t calm) = inr ((λ b h. h), tt)
-calm_turns S c got (pasts k i rest has none) = inr ((λ b h. h), ((λ b h. h), tt))
-calm_turns S c got (asks_read k i rest place has is w ready) = inr ((λ b h. h), tt)
-calm_turns S c got (asks_write k i rest place has is w ready) = inr ((λ b h. h), at c.state)
+calm_turns S c got (pasts k i rest has_disk none) = inr ((λ b h. h), ((λ b h. h), tt))
+calm_turns S c got (asks_read k i rest place has_disk is w ready) = inr ((λ b h. h), tt)
+calm_turns S c got (asks_write k i rest place has_disk is w ready) = inr ((λ b h. h), at c.state)
   where
     at : (state : State) → CalmList (asked_events state)
     at IsReadonly = tt
@@ -99,10 +99,10 @@ calm_turns S c got (asks_write k i rest place has is w ready) = inr ((λ b h. h)
     at IsPending = tt
     at IsActive = tt
     at IsIdle = tt
-calm_turns S c got (puts k i left step d ds has need) = inr tt
-calm_turns S c got (syncs k i left step d ds has need) = inr tt
-calm_turns S c got (gets k i left step d has need) = inr tt
-calm_turns S c got (acks k i left step answer has need) = inr ((λ b h. h), tt)
+calm_turns S c got (puts k i left step d ds has_disk need) = inr tt
+calm_turns S c got (syncs k i left step d ds has_disk need) = inr tt
+calm_turns S c got (gets k i left step d has_disk need) = inr tt
+calm_turns S c got (acks k i left step answer has_disk need) = inr ((λ b h. h), tt)
 
 no_round : (p : Phase) (m : Laid) (step : Step) (left : List ℕ) → p ≡ Rest → p ≡ Going m step left → ⊥
 no_round Rest m step left a b = absurd cc
@@ -135,7 +135,7 @@ module _ (S : Setting) (volume : IsFirstVolume S) (log : List Call) (c : Control
 live_for : (S : Setting) → AsksFirst S → (i : ℕ) (journal : List Entry) → (is_write S i ≡ true → is_live 0 journal ≡ true) → IsLiveFor (write_at S.asked.ops i) journal
 live_for S asks i journal alive = at (kind_at S.asked.ops i) refl
   where
-    at : (kind : Option OpKind) → kind_at S.asked.ops i ≡ kind → IsLiveFor (target_in kind) journal
+    at : (kind : Option OpKind) → kind_at S.asked.ops i ≡ kind → IsLiveFor (write_in kind) journal
     at None is = tt
     at (Some (OpWrite v s value)) is =
         let zero_is : v.0 ≡ 0 = kind_first S.asked.ops i (OpWrite v s value) asks.volumes is in

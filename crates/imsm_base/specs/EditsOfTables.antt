@@ -5,7 +5,7 @@
 use Rattle.std.specs.Prelude.{ℕ, zero, suc, ◌+◌, ◌-◌, ◌/◌, ◌%◌, ◌^◌, nat_lt, if◌then◌else◌, List, [], ◌∷◌, ◌++◌, length, map, replicate}
 use Rattle.std.specs.List.{remove}
 use Rattle.byteorder.specs.Endian.{little_bytes}
-use Rattle.imsm_base.specs.declared.values.TheConstants.{CHECKPOINT_MARK, INDEX_RANGE}
+use Rattle.imsm_base.specs.declared.values.TheConstants.{CHECKPOINT_SIGNATURE, INDEX_RANGE}
 use Rattle.imsm_base.specs.Fields.{Part, number}
 use Rattle.imsm_base.specs.Layout.{Block, Volume, Map, header_lengths, disk_lengths}
 use Rattle.imsm_base.specs.Volumes.{first_map}
@@ -62,7 +62,7 @@ abbrev pub volume_with_pass : ℕ → ℕ → Volume → Volume
 volume_with_pass kind unit v =
     record v {
       state = with_wide 0 8 unit
-          (with_field 1 (little_bytes 4 CHECKPOINT_MARK) (with_field 3 (little_bytes 1 kind) v.state));
+          (with_field 1 (little_bytes 4 CHECKPOINT_SIGNATURE) (with_field 3 (little_bytes 1 kind) v.state));
     }
 
 abbrev pub block_with_pass : Block → ℕ → ℕ → ℕ → Block

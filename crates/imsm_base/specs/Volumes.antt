@@ -8,8 +8,8 @@ use Rattle.std.specs.Int.{bit_at}
 use Rattle.units.specs.declared.volume.Level.{Level}
 use Rattle.units.specs.declared.volume.Level.TheVariants.{One, Five, Ten}
 use Rattle.units.specs.declared.bounds.TheConstants.{MAX_VOLUME_SECTORS, METADATA_SECTORS, UNIT_ROWS}
-use Rattle.imsm_base.specs.declared.values.TheConstants.{CHECKPOINT_MARK, INDEX_RANGE}
-use Rattle.imsm_base.specs.Layout.{Block, Volume, Map, disk_count_of, total_blocks_of, volume_size_of, policy_of, unit_of, checkpoint_of, migration_state_of, migration_type_of, dirty_byte_of, pba_of, blocks_per_member_of, strip_of, map_state_of, level_byte_of, member_count_of, orders_of}
+use Rattle.imsm_base.specs.declared.values.TheConstants.{CHECKPOINT_SIGNATURE, INDEX_RANGE}
+use Rattle.imsm_base.specs.Layout.{Block, Volume, Map, disk_count_of, total_blocks_of, volume_size_of, policy_of, unit_of, checkpoint_of, migration_state_of, migration_type_of, dirty_byte_of, pba_of, blocks_per_member_of, strip_of, map_state_of, level_byte_of, member_count_of, orders_of, map_count_of}
 use Rattle.imsm_base.specs.Whole.{is_expected}
 use Rattle.units.specs.Levels.{suffices, rows_of}
 
@@ -58,6 +58,14 @@ has_pass v = not (migration_state_of v == 0)
 abbrev pub has_pass_of : List ℕ → Volume → Bool
 has_pass_of types v = has_pass v && list_any (λ t. t == migration_type_of v) types
 
+-- the type of the open pass
+abbrev pub pass_of : Volume → Option ℕ
+pass_of v = if has_pass v then Some (migration_type_of v) else None
+
+-- the bytes of a second map, for a volume that has none
+abbrev pub second_map_bytes : Volume → ℕ
+second_map_bytes v = if map_count_of v == 1 then 48 + 4 * member_count_of (first_map v) else 0
+
 -- map states: 0 normal, 1 uninitialised, 2 degraded, 3 failed (IMSM_T_STATE_NORMAL and following)
 abbrev pub is_unfinished : Volume → Bool
 is_unfinished v = is_dirty v || map_state_of (first_map v) == 1 || has_pass_of (0 ∷ 2 ∷ 5 ∷ []) v
@@ -82,7 +90,7 @@ volume_rows v = rows_of (volume_level v) (member_count_of (first_map v)) (volume
 
 -- a checkpoint counts units; it is honoured where this project's mark stands and the volume is clean
 abbrev pub is_honoured : Volume → Bool
-is_honoured v = checkpoint_of v == CHECKPOINT_MARK && not (is_dirty v)
+is_honoured v = checkpoint_of v == CHECKPOINT_SIGNATURE && not (is_dirty v)
 
 abbrev pub pass_start : Volume → ℕ
 pass_start v =

@@ -1,7 +1,7 @@
 -- A whole metadata block, and a whole disk.
 -- Source: load_imsm_mpb and parse_raid_devices of super-intel.c. The bounds on sizes and counts, the accepted tails
 -- and the rule on serials are this project's own.
-use Rattle.std.specs.Prelude.{◌≡◌, ◌≢◌, ℕ, zero, suc, ◌+◌, ◌-◌, ◌*◌, ◌/◌, ◌%◌, ◌^◌, ◌≤◌, ◌==◌, ◌&&◌, ◌⊎◌, Bool, if◌then◌else◌, List, [], ◌∷◌, ◌++◌, length, map, filter, take, find, Option, Some, None, ⊤}
+use Rattle.std.specs.Prelude.{◌≡◌, ◌≢◌, ℕ, zero, suc, ◌+◌, ◌-◌, ◌*◌, ◌/◌, ◌%◌, ◌^◌, ◌≤◌, ◌==◌, ◌&&◌, nat_le, ◌⊎◌, Bool, if◌then◌else◌, List, [], ◌∷◌, ◌++◌, length, map, filter, take, find, Option, Some, None, ⊤}
 use Rattle.std.specs.List.{AllByRecursion}
 use Rattle.std.specs.Option.{IsSomeAnd}
 use Rattle.std.specs.Int.{bit_at}
@@ -9,6 +9,7 @@ use Rattle.std.specs.Str.{bytes_eq}
 use Rattle.units.specs.declared.disk.Sector.{Sector}
 use Rattle.units.specs.declared.bounds.TheConstants.{HEADER_BYTES, MAX_BLOCK_BYTES, MAX_DISKS, MAX_VOLUMES, METADATA_SECTORS}
 use Rattle.units.specs.Places.{anchor_place, extended_count}
+use Rattle.imsm_base.specs.declared.values.TheConstants.{LOG_SIGNATURE}
 use Rattle.imsm_base.specs.Fields.{Part, number_at}
 use Rattle.imsm_base.specs.Layout.{Block, Spells, signature_of, checksum_of, size_of, disk_count_of, volume_count_of, serial_of, status_of, total_blocks_of}
 
@@ -31,6 +32,10 @@ pub record IsSize (n : ℕ) : Type 0 where
   pub most : n ≤ MAX_BLOCK_BYTES
   pub words : n % 4 ≡ 0
 
+-- the same as a test
+abbrev pub is_size : ℕ → Bool
+is_size n = nat_le HEADER_BYTES n && nat_le n MAX_BLOCK_BYTES && (n % 4 == 0)
+
 pub record AreCounts (disks volumes : ℕ) : Type 0 where
   pub some_disk : 1 ≤ disks
   pub few_disks : disks ≤ MAX_DISKS
@@ -51,7 +56,7 @@ AreApart (x ∷ xs) = AllByRecursion (λ y. x ≢ y) xs × AreApart xs
 -- a tail is empty, or begins with the mark of an empty bad-block log (BBM_LOG_SIGNATURE, no entries)
 abbrev pub IsAcceptedTail : List ℕ → Type 0
 IsAcceptedTail bytes =
-    (bytes ≡ []) ⊎ ((8 ≤ length bytes) × (number_at 4 0 bytes ≡ 0xabadb10c) × (number_at 4 4 bytes ≡ 0))
+    (bytes ≡ []) ⊎ ((8 ≤ length bytes) × (number_at 4 0 bytes ≡ LOG_SIGNATURE) × (number_at 4 4 bytes ≡ 0))
 
 -- the block whose parts spell the bytes is whole; a fault is the first of these that fails
 pub record IsWholeBlock (bytes : List ℕ) (b : Block) : Type 0 where

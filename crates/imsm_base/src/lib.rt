@@ -17,5 +17,5 @@ mod vector;
 pub use number::{get_u16, get_u32, put_u16, put_u32};
 pub use parts::parts_are_determined;
 pub use ranges::ranges_meet_in_a_sector;
-pub use values::{CHECKPOINT_MARK, INDEX_RANGE};
+pub use values::{CHECKPOINT_SIGNATURE, INDEX_RANGE, LOG_SIGNATURE};
 pub use vector::{example_of_a_torn_block, example_of_a_whole_block};

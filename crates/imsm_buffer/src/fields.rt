@@ -9,7 +9,7 @@ ghost use Rattle.imsm_buffer.specs.Buffer.{parts_of, with_block};
 use crate::buffer::MpbBuf;
 use crate::bytes::{put_name, put_pass, put_u8};
 use crate::places::{disk_place, map_place, volume_place};
-use imsm_base::{CHECKPOINT_MARK, put_u32};
+use imsm_base::{CHECKPOINT_SIGNATURE, put_u32};
 use imsm_codec::{MAP_BYTES, get_u8};
 use units::{Slot, VolNo};
 
@@ -72,7 +72,7 @@ impl MpbBuf {
         ensures block { parts_of self.new ≡ block_with_pass (parts_of self.old) v.0 kind unit }
     {
         let at = volume_place(&self.bytes, v.0);
-        put_pass(&mut self.bytes, at, kind, unit, CHECKPOINT_MARK);
+        put_pass(&mut self.bytes, at, kind, unit, CHECKPOINT_SIGNATURE);
     }
 
     /// Sets a volume's name.

@@ -7,11 +7,8 @@ ghost use Rattle.imsm_codec.specs.Checked.{IsFilled, IsChecked, HasBlockFault};
 
 use crate::bytes::behind;
 use crate::fault::MpbFault;
-use imsm_base::get_u32;
+use imsm_base::{LOG_SIGNATURE, get_u32};
 use units::HEADER_BYTES;
-
-/// The mark of a bad-block log (`BBM_LOG_SIGNATURE`).
-const LOG_MARK: u32 = 0xABAD_B10C;
 
 /// Bytes of a log's mark and its count of entries.
 const LOG_HEAD: usize = 8;
@@ -20,7 +17,7 @@ fn is_accepted(tail: &[u8]) -> bool
     ensures { IsTrue result ↔ IsAcceptedTail tail.now }
 {
     tail.is_empty()
-        || (LOG_HEAD <= tail.len() && get_u32(tail, 0) == LOG_MARK && get_u32(tail, 4) == 0)
+        || (LOG_HEAD <= tail.len() && get_u32(tail, 0) == LOG_SIGNATURE && get_u32(tail, 4) == 0)
 }
 
 /// Whether the tail lies behind the volumes, of which `rest` has the bytes, and is of an accepted form.

@@ -4,7 +4,7 @@ use Rattle.std.proofs.lemmas.List.{get_or-set_other, get_or-set_same, length-set
 use Rattle.byteorder.specs.Endian.{little_bytes}
 use Rattle.imsm_base.specs.Fields.{Part, number}
 use Rattle.imsm_base.specs.Layout.{Block, Volume, volume_count_of, map_count_of, migration_state_of, migration_type_of}
-use Rattle.imsm_base.specs.Volumes.{Member, member, members, slots_of, order_at, first_map, has_pass}
+use Rattle.imsm_base.specs.Volumes.{Member, member, members, slots_of, order_at, first_map, has_pass, pass_of}
 use Rattle.imsm_base.specs.EditsOfTables.{with_volume, volume_with_pass, volume_with_migration}
 use Rattle.imsm_codec.specs.Mpb.{volume_at, blank_volume}
 use Rattle.imsm_base.specs.Parts.{block_in, volume_in}
@@ -13,7 +13,7 @@ use Rattle.imsm_base.proofs.At.{volume_in-block}
 use Rattle.imsm_codec.proofs.Found.{volumes_counted}
 use Rattle.imsm_codec.proofs.Mirror.{one_map, out_by_one}
 use Rattle.imsm_view.specs.declared.volume.Volume.{Volume as View}
-use Rattle.imsm_view.specs.Views.{IsVolume, pass_of, slot_view}
+use Rattle.imsm_view.specs.Views.{IsVolume, slot_view}
 use Rattle.imsm_view.proofs.Members.{marks}
 use Rattle.imsm_edit.specs.Meanings.{Tells, with_migration, with_pass}
 use Rattle.imsm_edit.proofs.Changes.{volume_changed, block_as}

@@ -6,7 +6,7 @@ use Rattle.std.specs.List.{list_any}
 use Rattle.std.proofs.lemmas.List.{get_or-set_other, get_or-set_same}
 use Rattle.imsm_base.specs.Fields.{Part, number}
 use Rattle.imsm_base.specs.Layout.{Block, Volume, Map, map_count_of, migration_state_of, migration_type_of, dirty_byte_of}
-use Rattle.imsm_base.specs.Volumes.{members, has_pass}
+use Rattle.imsm_base.specs.Volumes.{members, has_pass, pass_of}
 use Rattle.imsm_base.specs.Edits.{volume_with_dirty, with_lowest_bit}
 use Rattle.byteorder.specs.Endian.{little_bytes}
 use Rattle.std.proofs.lemmas.Bool.{false≢true}
@@ -14,7 +14,7 @@ use Rattle.imsm_base.specs.EditsOfTables.{with_volume, with_map, map_with_state}
 use Rattle.imsm_codec.specs.Mpb.{volume_at}
 use Rattle.imsm_view.specs.declared.volume.Volume.{Volume as View}
 use Rattle.imsm_view.specs.declared.volume.SlotView.{SlotView}
-use Rattle.imsm_view.specs.Views.{IsVolume, pass_of, slot_view}
+use Rattle.imsm_view.specs.Views.{IsVolume, slot_view}
 use Rattle.imsm_view.proofs.Words.{list_any-map}
 use Rattle.imsm_edit.specs.Meanings.{has_out, state_now, state_before, seen_now, seen_before, is_init, with_states, edited, at_point, Tells}
 use Rattle.imsm_edit.proofs.Changes.{volume_changed, block_twice, block_as}

@@ -5,12 +5,12 @@ use Rattle.std.specs.Prelude.{◌≡◌, ◌<◌, ℕ, ◌==◌, ◌&&◌, not, 
 use Rattle.std.specs.Option.{option_map_or}
 use Rattle.std.specs.List.{list_any}
 use Rattle.imsm_base.specs.Layout.{Block, Volume, migration_type_of}
-use Rattle.imsm_base.specs.Volumes.{members, is_expected_at, has_pass, has_pass_of, volume_fault}
+use Rattle.imsm_base.specs.Volumes.{members, is_expected_at, has_pass, has_pass_of, volume_fault, pass_of}
 use Rattle.imsm_base.specs.Edits.{volume_with_dirty}
 use Rattle.imsm_base.specs.EditsOfTables.{with_volume, with_map, map_with_state, volume_with_pass, volume_with_migration}
 use Rattle.imsm_codec.specs.Mpb.{volume_at}
 use Rattle.imsm_view.specs.declared.volume.Volume.{Volume as View}
-use Rattle.imsm_view.specs.Views.{pass_of, slot_view}
+use Rattle.imsm_view.specs.Views.{slot_view}
 use Rattle.imsm_edit.specs.declared.facts.EditFacts.{EditFacts}
 
 -- what a list says of a number, and false where it says nothing

@@ -7,7 +7,7 @@ use Rattle.imsm_base.specs.Layout.{Block, Volume, member_count_of}
 use Rattle.imsm_base.specs.Volumes.{first_map, member}
 use Rattle.units.specs.declared.bounds.TheConstants.{UNIT_ROWS}
 use Rattle.units.specs.Levels.{suffices}
-use Rattle.imsm_base.specs.declared.values.TheConstants.{CHECKPOINT_MARK}
+use Rattle.imsm_base.specs.declared.values.TheConstants.{CHECKPOINT_SIGNATURE}
 use Rattle.imsm_base.specs.Volumes as word
 use Rattle.imsm_view.specs.declared.volume.Volume.{Volume as View}
 use Rattle.imsm_view.specs.declared.volume.SlotView.{SlotView}
@@ -35,7 +35,7 @@ can_run view = suffices (Some view.geometry.level) (map is_slot_in_sync view.slo
 -- is clean
 abbrev pub is_resumed : View → Bool
 is_resumed view =
-    option_map_or (λ t. not (t == 2)) view.pass false && (view.checkpoint == CHECKPOINT_MARK && not view.dirty)
+    option_map_or (λ t. not (t == 2)) view.pass false && (view.checkpoint == CHECKPOINT_SIGNATURE && not view.dirty)
 
 abbrev pub pass_start : View → ℕ
 pass_start view =

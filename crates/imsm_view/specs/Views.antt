@@ -1,11 +1,11 @@
 -- What a view says of its volume: each field is that of the metadata block, or a word of it.
 -- Source: `Volumes` of imsm_base, over imsm_vol and imsm_map of super-intel.c.
-use Rattle.std.specs.Prelude.{◌≡◌, ℕ, ◌+◌, ◌&&◌, nat_le, Bool, length, find, map, Option, Some, None, if◌then◌else◌}
+use Rattle.std.specs.Prelude.{◌≡◌, ℕ, ◌+◌, ◌&&◌, nat_le, Bool, length, find, map, Option, Some}
 use Rattle.std.specs.List.{list_all, range_with_len}
 use Rattle.units.specs.declared.bounds.TheConstants.{METADATA_SECTORS}
 use Rattle.units.specs.declared.volume.Geometry.{Geometry}
-use Rattle.imsm_base.specs.Layout.{Block, Volume, volume_size_of, unit_of, checkpoint_of, migration_type_of, pba_of, blocks_per_member_of, strip_of, map_state_of, member_count_of}
-use Rattle.imsm_base.specs.Volumes.{Member, first_map, members, is_expected_at, is_dirty, has_pass, volume_level, volume_rows, has_sectors, is_like, overlaps}
+use Rattle.imsm_base.specs.Layout.{Block, Volume, volume_size_of, unit_of, checkpoint_of, pba_of, blocks_per_member_of, strip_of, map_state_of, member_count_of}
+use Rattle.imsm_base.specs.Volumes.{Member, first_map, members, is_expected_at, is_dirty, volume_level, volume_rows, has_sectors, is_like, overlaps, pass_of}
 use Rattle.imsm_view.specs.declared.volume.Volume.{Volume as View}
 use Rattle.imsm_view.specs.declared.volume.SlotView.{SlotView}
 
@@ -29,10 +29,6 @@ has_room b v =
 -- the first volume that overlaps with this one, of number k
 abbrev pub overlap_of : Block → ℕ → Volume → Option ℕ
 overlap_of b k v = find (overlaps b k v) (range_with_len 0 (length b.volumes))
-
--- the type of the open pass
-abbrev pub pass_of : Volume → Option ℕ
-pass_of v = if has_pass v then Some (migration_type_of v) else None
 
 abbrev pub slot_view : Block → Member → SlotView
 slot_view b m = record { index = m.index; out = m.is_out; expected = is_expected_at b m.index }

@@ -1,9 +1,8 @@
 //! Whether a volume is of a kind that is supported: its level, its policy and its open pass.
 ghost use Rattle.std.specs.Prelude.{◌≡◌, ◌<◌, Some, None};
 ghost use Rattle.imsm_base.specs.Layout.{volume_count_of};
-ghost use Rattle.imsm_base.specs.Volumes.{level_of, volume_level, has_policy, has_migration};
+ghost use Rattle.imsm_base.specs.Volumes.{level_of, volume_level, has_policy, has_migration, pass_of};
 ghost use Rattle.imsm_codec.specs.Mpb.{block_of, volume_at};
-ghost use Rattle.imsm_view.specs.Views.{pass_of};
 
 use imsm_codec::MpbRef;
 use units::{Level, VolNo};

@@ -6,7 +6,7 @@ ghost use Rattle.units.specs.Levels.{suffices};
 ghost use Rattle.imsm_view.specs.Questions.{is_slot_in_sync, is_in_sync_at, is_resync, is_unfinished, is_degraded, can_run, is_resumed, pass_start, wants_pass};
 
 use crate::volume::{SlotView, Volume};
-use imsm_base::CHECKPOINT_MARK;
+use imsm_base::CHECKPOINT_SIGNATURE;
 use units::{Level, Slot, UNIT_ROWS};
 
 impl SlotView {
@@ -104,7 +104,7 @@ impl Volume {
         ensures { result ≡ is_resumed self.now }
     {
         match self.pass {
-            Some(kind) => kind != 2 && self.checkpoint == CHECKPOINT_MARK && !self.dirty,
+            Some(kind) => kind != 2 && self.checkpoint == CHECKPOINT_SIGNATURE && !self.dirty,
             None => false,
         }
     }

@@ -10,18 +10,18 @@ use Rattle.std.proofs.lemmas.Option.{slice_get-get_or, same_Some}
 use Rattle.std.proofs.lemmas.Grind.{common_steps}
 use Rattle.units.specs.declared.disk.Sector.{Sector}
 use Rattle.device_log.specs.Cells.{Cell, brought, cell_written}
-use Rattle.member_bank.specs.Contents.{Contents, contents_of, laid, laid_on}
+use Rattle.member_bank.specs.Contents.{Contents, contents_of, overwritten, overwritten_on}
 
-pub length-laid : (disk : List Sector) (place : ℕ) (new : List Sector) → place + length new ≤ length disk → length (laid disk place new) ≡ length disk
+pub length-laid : (disk : List Sector) (place : ℕ) (new : List Sector) → place + length new ≤ length disk → length (overwritten disk place new) ≡ length disk
 length-laid disk place new within = simp (length-append, length-take, length-drop) (omega arith)
 
-pub laid_nothing : (disk : List Sector) (place : ℕ) → laid disk place [] ≡ disk
+pub laid_nothing : (disk : List Sector) (place : ℕ) → overwritten disk place [] ≡ disk
 laid_nothing disk place =
     let at : place + 0 ≡ place = omega arith in
     rw (at, append-nil (take place disk), take-append-drop place disk) refl
 
 pub laid_more : (disk : List Sector) (place : ℕ) (x : Sector) (xs : List Sector) → place < length disk
-    → laid disk place (x ∷ xs) ≡ laid (set disk place x) (place + 1) xs
+    → overwritten disk place (x ∷ xs) ≡ overwritten (set disk place x) (place + 1) xs
 laid_more disk place x xs within =
     let far : place < place + 1 + length xs = omega arith in
     let same : place + 1 + length xs ≡ place + length (x ∷ xs) = omega arith in
@@ -58,18 +58,18 @@ one_brought false c disk place p x t same within was now =
 
 -- what stands at a place after a write is what the cell says
 pub stood_written : (c : Cell) (disk : List Sector) (place : ℕ) (new : List Sector) (stored p : ℕ) (s : Sector) → place + length new ≤ length disk
-    → ((u : Sector) → slice_get disk p ≡ Some u → c.stood ≡ u) → slice_get (laid disk place (take stored new)) p ≡ Some s → (cell_written c place new stored p).stood ≡ s
+    → ((u : Sector) → slice_get disk p ≡ Some u → c.stood ≡ u) → slice_get (overwritten disk place (take stored new)) p ≡ Some s → (cell_written c place new stored p).stood ≡ s
 stood_written c disk place [] zero p s within was now = was s (rw laid_nothing at now)
 stood_written c disk place [] (suc n) p s within was now = was s (rw laid_nothing at now)
 stood_written c disk place (x ∷ xs) zero p s within was now =
     let rest : place + 1 + length xs ≤ length disk = omega arith in
-    let still : slice_get (laid disk (place + 1) []) p ≡ Some s = rw (laid_nothing disk (place + 1)) (rw (laid_nothing disk place) at now) in
+    let still : slice_get (overwritten disk (place + 1) []) p ≡ Some s = rw (laid_nothing disk (place + 1)) (rw (laid_nothing disk place) at now) in
     stood_written (if place == p then brought c x false else c) disk (place + 1) xs zero p s rest
     (λ u here. not_brought (place == p) c x ∙ was u here) still
 stood_written c disk place (x ∷ xs) (suc n) p s within was now =
     let inside : place < length disk = omega arith in
     let rest : place + 1 + length xs ≤ length (set disk place x) = omega (arith, length-set disk place x) in
-    let moved : slice_get (laid (set disk place x) (place + 1) (take n xs)) p ≡ Some s = rw (laid_more disk place x (take n xs) inside) at now in
+    let moved : slice_get (overwritten (set disk place x) (place + 1) (take n xs)) p ≡ Some s = rw (laid_more disk place x (take n xs) inside) at now in
     let less : n ≡ suc n - 1 = omega arith in
     let some : true ≡ nat_lt 0 (suc n) = grind (arith, common_steps) in
     subst (λ (b : Bool). (cell_written (if place == p then brought c x b else c) (place + 1) xs (suc n - 1) p).stood ≡ s) some
@@ -83,8 +83,8 @@ same_contents a b c d one two = rw (one, two) refl
 
 -- a disk whose sectors change keeps its serial, and all others stay
 pub put_contents : (disks : List MemDisk) (d place : ℕ) (disk : MemDisk) (new from was : List Sector) (old : Contents) → contents_of disks ≡ old → d < length old.sectors
-    → disk ≡ get_or disks d disk → was ≡ disk.sectors.items → new ≡ laid was place from → length new ≡ vec_len disk.sectors
-    → contents_of (set disks d (record { serial = disk.serial; sectors = with_items disk.sectors new })) ≡ record { serials = old.serials; sectors = laid_on old.sectors d place from }
+    → disk ≡ get_or disks d disk → was ≡ disk.sectors.items → new ≡ overwritten was place from → length new ≡ vec_len disk.sectors
+    → contents_of (set disks d (record { serial = disk.serial; sectors = with_items disk.sectors new })) ≡ record { serials = old.serials; sectors = overwritten_on old.sectors d place from }
 put_contents disks d place disk new from was old seen within found same laid_is fits =
     let small : d < length disks = omega (arith, length-map disks (λ (m : MemDisk). m.sectors.items), ap (λ (c : Contents). length c.sectors) seen) in
     let items : (with_items disk.sectors new).items ≡ new = with_items_is disk.sectors new fits in
@@ -92,8 +92,8 @@ put_contents disks d place disk new from was old seen within found same laid_is 
     get_or-map (λ (m : MemDisk). m.sectors.items) disks d disk [] small ∙ ap (λ (m : MemDisk). m.sectors.items) (sym found) in
     let serials : (contents_of (set disks d (record { serial = disk.serial; sectors = with_items disk.sectors new }))).serials ≡ old.serials =
     map-set_same (λ (m : MemDisk). m.serial) disks d (record { serial = disk.serial; sectors = with_items disk.sectors new }) disk (ap (λ (m : MemDisk). m.serial) found) ∙ ap (λ (c : Contents). c.serials) seen in
-    let sectors : (contents_of (set disks d (record { serial = disk.serial; sectors = with_items disk.sectors new }))).sectors ≡ laid_on old.sectors d place from =
+    let sectors : (contents_of (set disks d (record { serial = disk.serial; sectors = with_items disk.sectors new }))).sectors ≡ overwritten_on old.sectors d place from =
     map-set (λ (m : MemDisk). m.sectors.items) disks d (record { serial = disk.serial; sectors = with_items disk.sectors new })
     ∙ rw (items, laid_is, same, ← there, ← seen) refl in
     same_contents (contents_of (set disks d (record { serial = disk.serial; sectors = with_items disk.sectors new }))).serials old.serials
-    (contents_of (set disks d (record { serial = disk.serial; sectors = with_items disk.sectors new }))).sectors (laid_on old.sectors d place from) serials sectors
+    (contents_of (set disks d (record { serial = disk.serial; sectors = with_items disk.sectors new }))).sectors (overwritten_on old.sectors d place from) serials sectors

@@ -21,7 +21,7 @@ use Rattle.member_bank.specs.declared.history.LogRoom.{LogRoom}
 use Rattle.member_bank.specs.declared.history.NotedCall.{NotedCall}
 use Rattle.member_bank.specs.declared.history.NotedCall.TheVariants as asked
 use Rattle.member_bank.specs.Told.{Logs, LogsWrite}
-use Rattle.member_bank.specs.Contents.{Shows, laid, laid_on, sectors_of, sizes_of}
+use Rattle.member_bank.specs.Contents.{Shows, overwritten, overwritten_on, sectors_of, sizes_of}
 use Rattle.member_bank.specs.History.{LogState, has_room, log_with, what_of}
 use Rattle.member_bank.specs.Memory.{MemState, IsLog, IsMemory, kept_next, stored_of, written}
 use Rattle.member_bank.proofs.Laying.{length-laid, stood_written}
@@ -76,17 +76,17 @@ told_room P Q false log call was goes = tt
 
 shown_on : (same : Bool) (opening present : List (List Sector)) (log : List Call) (k place : ℕ) (new : List Sector) (stored : ℕ) (went : Bool) (d p : ℕ) (s : Sector)
     → (k == d) ≡ same → Shows opening log present → k < length present → place + length new ≤ length (get_or present k [])
-    → slice_get (get_or (laid_on present k place (take stored new)) d []) p ≡ Some s
+    → slice_get (get_or (overwritten_on present k place (take stored new)) d []) p ≡ Some s
     → Stands opening (log ++ record { disk = k; what = Write place new stored; went = went } ∷ []) d p s
 shown_on true opening present log k place new stored went d p s same was there within now =
     let at : k ≡ d = grind (arith, common_steps) in
     let disk : List Sector = get_or present k [] in
     let fits : place + length (take stored new) ≤ length disk = omega (arith, length-take stored new) in
-    let here : get_or (laid_on present k place (take stored new)) d [] ≡ laid disk place (take stored new) =
-    subst (λ (q : ℕ). get_or (laid_on present k place (take stored new)) q [] ≡ laid disk place (take stored new)) at
-    (get_or-set_same present k (laid disk place (take stored new)) [] there) in
-    let written : slice_get (laid disk place (take stored new)) p ≡ Some s = subst (λ (l : List Sector). slice_get l p ≡ Some s) here now in
-    let low : p < length disk = omega (arith, slice_get_within (laid disk place (take stored new)) p s written, length-laid disk place (take stored new) fits) in
+    let here : get_or (overwritten_on present k place (take stored new)) d [] ≡ overwritten disk place (take stored new) =
+    subst (λ (q : ℕ). get_or (overwritten_on present k place (take stored new)) q [] ≡ overwritten disk place (take stored new)) at
+    (get_or-set_same present k (overwritten disk place (take stored new)) [] there) in
+    let written : slice_get (overwritten disk place (take stored new)) p ≡ Some s = subst (λ (l : List Sector). slice_get l p ≡ Some s) here now in
+    let low : p < length disk = omega (arith, slice_get_within (overwritten disk place (take stored new)) p s written, length-laid disk place (take stored new) fits) in
     let stood : slice_get disk p ≡ Some (get_or disk p s) = slice_get-get_or disk p s low in
     let same_disk : slice_get (get_or present d []) p ≡ Some (get_or disk p s) = subst (λ (q : ℕ). slice_get (get_or present q []) p ≡ Some (get_or disk p s)) at stood in
     stands_more opening log (record { disk = k; what = Write place new stored; went = went }) d p (get_or disk p s) s (was d p (get_or disk p s) same_disk)
@@ -95,20 +95,20 @@ shown_on true opening present log k place new stored went d p s same was there w
 shown_on false opening present log k place new stored went d p s same was there within now =
     let apart : d ≢ k = grind (arith, common_steps) in
     let stood : slice_get (get_or present d []) p ≡ Some s =
-    subst (λ (l : List Sector). slice_get l p ≡ Some s) (get_or-set_other present k d (laid (get_or present k []) place (take stored new)) [] apart) now in
+    subst (λ (l : List Sector). slice_get l p ≡ Some s) (get_or-set_other present k d (overwritten (get_or present k []) place (take stored new)) [] apart) now in
     stands_more opening log (record { disk = k; what = Write place new stored; went = went }) d p s s (was d p s stood)
     (λ c e. rw same e)
 
 named_write : (present : List (List Sector)) (k place : ℕ) (new : List Sector) (log : List Call) → AllByRecursion (λ (c : Call). c.disk < length present) log
-    → AllByRecursion (λ (c : Call). c.disk < length (laid_on present k place new)) log
-named_write present k place new log named = rw (length-set present k (laid (get_or present k []) place new)) named
+    → AllByRecursion (λ (c : Call). c.disk < length (overwritten_on present k place new)) log
+named_write present k place new log named = rw (length-set present k (overwritten (get_or present k []) place new)) named
 
 pub write_log : (opening present : List (List Sector)) (log : List Call) (k place : ℕ) (new : List Sector) (stored : ℕ) (went : Bool) → IsLog opening present log → k < length present
     → place + length new ≤ length (get_or present k [])
-    → IsLog opening (laid_on present k place (take stored new)) (log ++ record { disk = k; what = Write place new stored; went = went } ∷ [])
+    → IsLog opening (overwritten_on present k place (take stored new)) (log ++ record { disk = k; what = Write place new stored; went = went } ∷ [])
 write_log opening present log k place new stored went was there within = record {
-  named = all_append (λ (c : Call). c.disk < length (laid_on present k place (take stored new))) log (record { disk = k; what = Write place new stored; went = went })
-      (named_write present k place (take stored new) log was.named) (omega (arith, length-set present k (laid (get_or present k []) place (take stored new))));
+  named = all_append (λ (c : Call). c.disk < length (overwritten_on present k place (take stored new))) log (record { disk = k; what = Write place new stored; went = went })
+      (named_write present k place (take stored new) log was.named) (omega (arith, length-set present k (overwritten (get_or present k []) place (take stored new))));
   shown = λ d p s here. shown_on (k == d) opening present log k place new stored went d p s refl was.shown there within here;
 }
 
@@ -124,9 +124,9 @@ logs_room true log call now is = (log, refl, sym (same_Some (log ++ call ∷ [])
 logs_room false log call now is = absurd (none-some now is)
 
 pub sizes_put : (disks : List (List Sector)) (d place : ℕ) (new : List Sector) → place + length new ≤ length (get_or disks d [])
-    → sizes_of (laid_on disks d place new) ≡ sizes_of disks
+    → sizes_of (overwritten_on disks d place new) ≡ sizes_of disks
 sizes_put disks d place new within =
-    map-set_same (λ (x : List Sector). length x) disks d (laid (get_or disks d []) place new) [] (length-laid (get_or disks d []) place new within)
+    map-set_same (λ (x : List Sector). length x) disks d (overwritten (get_or disks d []) place new) [] (length-laid (get_or disks d []) place new within)
 
 -- calls that are not on a disk leave its cells
 other_calls : (n d p : ℕ) (c : Cell) (log : List Call) → n ≤ d → AllByRecursion (λ (k : Call). k.disk < n) log → cell_after d p c log ≡ c
@@ -197,13 +197,13 @@ asked_memory serials opening present faults counts log k a went was there same =
 
 pub stored_memory : (serials : List Serial) (opening present : List (List Sector)) (faults counts : List ℕ) (log : LogState) (k place : ℕ) (new : List Sector) (stored : ℕ) (went : Bool)
     → IsMemory serials opening present faults log.log → k < length present → place + length new ≤ length (get_or present k []) → length counts ≡ length faults
-    → IsMemory serials opening (laid_on present k place (take stored new)) counts
+    → IsMemory serials opening (overwritten_on present k place (take stored new)) counts
     (log_with log.room log.log (record { disk = k; what = Write place new stored; went = went }))
 stored_memory serials opening present faults counts log k place new stored went was there within same =
     let less : place + length (take stored new) ≤ length (get_or present k []) = omega (arith, length-take stored new) in
-    let long : length (laid_on present k place (take stored new)) ≡ length present = length-set present k (laid (get_or present k []) place (take stored new)) in
+    let long : length (overwritten_on present k place (take stored new)) ≡ length present = length-set present k (overwritten (get_or present k []) place (take stored new)) in
     record {
-      told = told_with (IsLog opening present) (IsLog opening (laid_on present k place (take stored new))) log.room log.log
+      told = told_with (IsLog opening present) (IsLog opening (overwritten_on present k place (take stored new))) log.room log.log
           (record { disk = k; what = Write place new stored; went = went }) was.told (λ l h. write_log opening present l k place new stored went h there within);
       few = omega (arith, was.few);
       named = was.named ∙ sym long;

@@ -23,12 +23,12 @@ abbrev pub sizes_of : List (List Sector) → List ℕ
 sizes_of disks = map (λ (d : List Sector). length d) disks
 
 -- a disk with these sectors from a place on
-abbrev pub laid : List Sector → ℕ → List Sector → List Sector
-laid disk place sectors = take place disk ++ sectors ++ drop (place + length sectors) disk
+abbrev pub overwritten : List Sector → ℕ → List Sector → List Sector
+overwritten disk place sectors = take place disk ++ sectors ++ drop (place + length sectors) disk
 
 -- the disks with these sectors on one of them
-abbrev pub laid_on : List (List Sector) → ℕ → ℕ → List Sector → List (List Sector)
-laid_on disks d place sectors = slice_set disks d (laid (slice_index_or disks d []) place sectors)
+abbrev pub overwritten_on : List (List Sector) → ℕ → ℕ → List Sector → List (List Sector)
+overwritten_on disks d place sectors = slice_set disks d (overwritten (slice_index_or disks d []) place sectors)
 
 -- these disks are what a log leaves of the opening contents, at each place of each disk
 abbrev pub Shows : List (List Sector) → List Call → List (List Sector) → Type 0

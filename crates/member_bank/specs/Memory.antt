@@ -10,7 +10,7 @@ use Rattle.member_bank.specs.declared.disks.MemDisk.{MemDisk}
 use Rattle.member_bank.specs.declared.history.LogRoom.{LogRoom}
 use Rattle.member_bank.specs.declared.memory.FailAt.{FailAt}
 use Rattle.member_bank.specs.Faults.{next_count, faults_with}
-use Rattle.member_bank.specs.Contents.{contents_of, sizes_of, laid_on, Shows}
+use Rattle.member_bank.specs.Contents.{contents_of, sizes_of, overwritten_on, Shows}
 use Rattle.member_bank.specs.History.{log_with}
 
 -- a bank in memory: each disk's serial, its sectors when it was added and now, and how often it failed; the log where
@@ -73,7 +73,7 @@ abbrev pub written : MemState → ℕ → ℕ → List Sector → Bool → MemSt
 written b d place sectors went =
     let stored : ℕ = stored_of (kept_next b) (length sectors) in
     let call : Call = record { disk = d; what = Write place sectors stored; went = went } in
-    record (called b call) { present = laid_on b.present d place (take stored sectors) }
+    record (called b call) { present = overwritten_on b.present d place (take stored sectors) }
 
 -- a log that is told names disks that are there, and leaves what is present
 pub record IsLog (opening present : List (List Sector)) (log : List Call) : Type 0 where

@@ -1,6 +1,6 @@
 //! Disks in memory.
 ghost use Rattle.std.specs.Prelude.{◌≡◌, ◌+◌, ◌≤◌, ◌<◌, [], ◌∷◌, ◌++◌, length, Some, slice_get, slice_index_or, OnOk, OnErr};
-ghost use Rattle.member_bank.specs.Contents.{contents_of, laid, laid_on};
+ghost use Rattle.member_bank.specs.Contents.{contents_of, overwritten, overwritten_on};
 
 use std::alloc::{AllocError, Global};
 use std::marker::Model;
@@ -30,7 +30,7 @@ impl Model for Disks {
 /// Puts sectors onto a disk from a place on.
 fn lay(disk: &mut [Sector], place: usize, from: &[Sector])
     requires { place + length from.now ≤ length disk.old }
-    ensures { disk.new ≡ laid disk.old place from.now }
+    ensures { disk.new ≡ overwritten disk.old place from.now }
 {
     disk[place..place + from.len()].copy_from_slice(from);
 }
@@ -83,7 +83,7 @@ impl Disks {
     pub fn put(&mut self, d: usize, place: usize, from: &[Sector])
         requires disk { d < length self.old.sectors }
         requires place { place + length from.now ≤ length (slice_index_or self.old.sectors d []) }
-        ensures { self.new ≡ record self.old { sectors = laid_on self.old.sectors d place from.now } }
+        ensures { self.new ≡ record self.old { sectors = overwritten_on self.old.sectors d place from.now } }
     {
         let disk = &mut self.disks[d];
         lay(&mut disk.sectors, place, from);

@@ -12,14 +12,14 @@ use Rattle.std.proofs.lemmas.List.{append-nil, append_assoc, nil_from_length, le
 use Rattle.std.proofs.lemmas.List.FromFn.{get_or-range_with_len}
 use Rattle.units.specs.declared.disk.Sector.{Sector}
 use Rattle.imsm_base.specs.Fields.{number}
-use Rattle.imsm_base.specs.Whole.{the_signature}
+use Rattle.imsm_base.specs.Whole.{the_signature, is_size}
 use Rattle.units.specs.Places.{anchor_place, extended_count}
 use Rattle.imsm_codec.specs.Given.{size_in}
 use Rattle.device_log.specs.Log.{Call, Read as LoggedRead}
 use Rattle.device_log.specs.Cells.{Cell, Stands, cell_after, resting}
 use Rattle.member_bank.specs.Told.{Keeps, Logs, Gives}
 use Rattle.mpb_store.specs.declared.reading.ReadStep.TheVariants.{Read, Over}
-use Rattle.mpb_store.specs.Reading.{Reading, is_size, extended_by, places_of, places_left, first_read, bytes_at}
+use Rattle.mpb_store.specs.Reading.{Reading, extended_by, places_of, places_left, first_read, bytes_at}
 use Rattle.mpb_store.specs.Banks.{has_failed, blank_sector, sector_after, IsReadOf, LogsReads, StandsSo, IsReadFrom, bytes_left}
 use Rattle.mpb_store.proofs.Placing.{extended_few, length-places_of, left_is, left_open, left_below, room_left}
 use Rattle.device_log.proofs.Cells.{cell_after-append, cell_called-read}

@@ -8,13 +8,13 @@ use Rattle.std.proofs.lemmas.Bool.Decides.{nat_tests}
 use Rattle.std.proofs.lemmas.Slice.Eq.{bytes_eq-Decides}
 use Rattle.std.proofs.lemmas.List.{drop_more, drop_all}
 use Rattle.std.proofs.lemmas.List.FromFn.{length-range_with_len, get_or-range_with_len}
-use Rattle.imsm_base.specs.Whole.{the_signature, IsSize}
+use Rattle.imsm_base.specs.Whole.{the_signature, IsSize, is_size}
 use Rattle.units.specs.Places.{anchor_place, extended_count}
 use Rattle.imsm_codec.specs.Given.{size_in, IsSized}
 use Rattle.imsm_codec.specs.Faults.{HasFault}
 use Rattle.imsm_codec.specs.declared.fault.MpbFault.{MpbFault}
 use Rattle.imsm_codec.specs.declared.fault.MpbFault.TheVariants.{Cut}
-use Rattle.mpb_store.specs.Reading.{cut_size_of, Reading, is_size, is_sized, extended_by, places_of, places_left, IsCut}
+use Rattle.mpb_store.specs.Reading.{cut_size_of, Reading, is_sized, extended_by, places_of, places_left, IsCut}
 
 is_size_from : (n : ℕ) → IsSize n → is_size n ≡ true
 is_size_from n s =

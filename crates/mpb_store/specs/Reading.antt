@@ -1,11 +1,11 @@
 -- How a metadata block is read off a disk: its anchor, and then, where the anchor tells how many there are, the
 -- extended sectors in order. Source: load_imsm_mpb of super-intel.c; the bounds on sizes are this project's own.
-use Rattle.std.specs.Prelude.{◌≡◌, ℕ, ◌-◌, ◌/◌, ◌%◌, ◌<◌, ◌==◌, ◌&&◌, ◌||◌, nat_le, nat_lt, Bool, if◌then◌else◌, List, [], ◌∷◌, take, drop, length, Option, Some, None}
+use Rattle.std.specs.Prelude.{◌≡◌, ℕ, ◌-◌, ◌/◌, ◌%◌, ◌<◌, ◌&&◌, ◌||◌, nat_lt, Bool, if◌then◌else◌, List, [], ◌∷◌, take, drop, length, Option, Some, None}
 use Rattle.std.specs.List.{range_with_len, flat_map}
 use Rattle.std.specs.Str.{bytes_eq}
-use Rattle.units.specs.declared.bounds.TheConstants.{HEADER_BYTES, MAX_BLOCK_BYTES, METADATA_SECTORS, SECTOR_BYTES}
+use Rattle.units.specs.declared.bounds.TheConstants.{METADATA_SECTORS, SECTOR_BYTES}
 use Rattle.units.specs.declared.disk.Sector.{Sector}
-use Rattle.imsm_base.specs.Whole.{the_signature}
+use Rattle.imsm_base.specs.Whole.{the_signature, is_size}
 use Rattle.units.specs.Places.{anchor_place, extended_count}
 use Rattle.imsm_codec.specs.Given.{size_in, IsSized}
 use Rattle.imsm_codec.specs.declared.fault.MpbFault.{MpbFault}
@@ -19,9 +19,6 @@ pub record Reading : Type 0 where
   pub sectors : ℕ
   pub bytes : List ℕ
   pub failed : Bool
-
-abbrev pub is_size : ℕ → Bool
-is_size n = nat_le HEADER_BYTES n && nat_le n MAX_BLOCK_BYTES && (n % 4 == 0)
 
 -- an anchor is signed, and its size is in the bounds
 abbrev pub is_sized : List ℕ → Bool

@@ -10,7 +10,7 @@ use Rattle.array_model.specs.declared.journal.Event.{Event}
 use Rattle.array_model.specs.declared.journal.Event.TheVariants.{Submit, Ack}
 use Rattle.array_model.specs.Script.{is_of_client}
 use Rattle.array_model.specs.Events.{has, is_ack_of}
-use Rattle.array_model.specs.AnswerLaw.{Step, steps_of, step_of, steps_due}
+use Rattle.array_model.specs.AnswerLaw.{OpEvent, op_events_of, op_event_of, op_events_due}
 use Rattle.array_model.proofs.Steps.{pair}
 use Rattle.stage_machine.specs.Setting.{Setting}
 use Rattle.stage_machine.specs.Opens.{AsksFirst}
@@ -23,8 +23,8 @@ abbrev pub contains : ℕ → List ℕ → Bool
 contains i xs = list_any (λ j. j == i) xs
 
 -- the steps have the ack of op i
-abbrev pub acked : ℕ → List Step → Bool
-acked i steps = list_any (λ (s : Step). s.is_ack && (s.op == i)) steps
+abbrev pub acked : ℕ → List OpEvent → Bool
+acked i steps = list_any (λ (s : OpEvent). s.is_ack && (s.op == i)) steps
 
 -- a list of tests has what its right part has, where the left part is the same
 or_over : (a b c : Bool) → (b ≡ true → c ≡ true) → (a || b) ≡ true → (a || c) ≡ true
@@ -55,41 +55,41 @@ in_pairs i [] h = h
 in_pairs i (x ∷ xs) h = or_over (x == i) (contains i xs) (acked i (flat_map pair xs)) (in_pairs i xs) h
 
 -- the ack of each operation of a client is due
-is_due : (ops : List Op) (k i : ℕ) → i < length ops → is_of_client ops k i ≡ true → acked i (steps_due ops k) ≡ true
+is_due : (ops : List Op) (k i : ℕ) → i < length ops → is_of_client ops k i ≡ true → acked i (op_events_due ops k) ≡ true
 is_due ops k i lt mine =
     in_pairs i (filter (is_of_client ops k) (range_with_len 0 (length ops)))
     (in_filter (is_of_client ops k) i mine (range_with_len 0 (length ops)) (in_range i 0 (length ops) (omega arith) (omega (arith, lt))))
 
 -- a journal has each ack that its steps have
 abbrev Shows : List Op → ℕ → ℕ → List Entry → Type 0
-Shows ops k i journal = acked i (steps_of ops k journal) ≡ true → has (is_ack_of i) journal ≡ true
+Shows ops k i journal = acked i (op_events_of ops k journal) ≡ true → has (is_ack_of i) journal ≡ true
 
 in_steps : (ops : List Op) (k i : ℕ) (journal : List Entry) → Shows ops k i journal
 in_steps ops k i [] h = h
 in_steps ops k i (e ∷ es) h = at (in_steps ops k i es) e.event h
   where
-    of_submit : Shows ops k i es → (j : ℕ) (b : Bool) → acked i (cons_option (if b then Some (record { is_ack = false; op = j }) else None) (steps_of ops k es)) ≡ true → has (is_ack_of i) es ≡ true
+    of_submit : Shows ops k i es → (j : ℕ) (b : Bool) → acked i (cons_option (if b then Some (record { is_ack = false; op = j }) else None) (op_events_of ops k es)) ≡ true → has (is_ack_of i) es ≡ true
     of_submit more j true h = more h
     of_submit more j false h = more h
 
-    of_ack : Shows ops k i es → (j : ℕ) (b : Bool) → acked i (cons_option (if b then Some (record { is_ack = true; op = j }) else None) (steps_of ops k es)) ≡ true → ((j == i) || has (is_ack_of i) es) ≡ true
-    of_ack more j true h = or_over (j == i) (acked i (steps_of ops k es)) (has (is_ack_of i) es) more h
+    of_ack : Shows ops k i es → (j : ℕ) (b : Bool) → acked i (cons_option (if b then Some (record { is_ack = true; op = j }) else None) (op_events_of ops k es)) ≡ true → ((j == i) || has (is_ack_of i) es) ≡ true
+    of_ack more j true h = or_over (j == i) (acked i (op_events_of ops k es)) (has (is_ack_of i) es) more h
     of_ack more j false h = or_right (j == i) (has (is_ack_of i) es) (more h)
 
-    at : Shows ops k i es → (event : Event) → acked i (cons_option (step_of ops k event) (steps_of ops k es)) ≡ true → (is_ack_of i event || has (is_ack_of i) es) ≡ true
+    at : Shows ops k i es → (event : Event) → acked i (cons_option (op_event_of ops k event) (op_events_of ops k es)) ≡ true → (is_ack_of i event || has (is_ack_of i) es) ≡ true
     at more (Submit j) h = of_submit more j (is_of_client ops k j) h
     at more (Ack j answer) h = of_ack more j (is_of_client ops k j) h
     at more _ h = more h
 
-append_none : (steps : List Step) → steps ++ [] ≡ steps
+append_none : (steps : List OpEvent) → steps ++ [] ≡ steps
 append_none [] = refl
 append_none (x ∷ xs) = ap (λ zs. x ∷ zs) (append_none xs)
 
 pub acked_all : (S : Setting) → AsksFirst S → (w : World) → Reached S w → (k : ℕ) → client_at w.control.clients k ≡ record { left = []; job = NoJob }
     → (i : ℕ) → i < length S.asked.ops → is_of_client S.asked.ops k i ≡ true → has (is_ack_of i) w.journal ≡ true
 acked_all S asks w r k idle i lt mine =
-    let due : steps_due S.asked.ops k ≡ steps_of S.asked.ops k w.journal ++ todo (client_at w.control.clients k) = due_reached S asks w r k in
-    let all : steps_due S.asked.ops k ≡ steps_of S.asked.ops k w.journal = due ∙ ap (λ x. steps_of S.asked.ops k w.journal ++ todo x) idle ∙ append_none (steps_of S.asked.ops k w.journal) in
+    let due : op_events_due S.asked.ops k ≡ op_events_of S.asked.ops k w.journal ++ todo (client_at w.control.clients k) = due_reached S asks w r k in
+    let all : op_events_due S.asked.ops k ≡ op_events_of S.asked.ops k w.journal = due ∙ ap (λ x. op_events_of S.asked.ops k w.journal ++ todo x) idle ∙ append_none (op_events_of S.asked.ops k w.journal) in
     in_steps S.asked.ops k i w.journal (subst (λ steps. acked i steps ≡ true) all (is_due S.asked.ops k i lt mine))
 
 -- the clients are 0 to 15

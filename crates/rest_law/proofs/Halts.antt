@@ -8,8 +8,8 @@ use Rattle.array_model.specs.declared.script.Op.{Op}
 use Rattle.array_model.specs.declared.script.OpKind.{OpKind}
 use Rattle.array_model.specs.declared.script.OpKind.TheVariants.{Write as OpWrite, Read as OpRead, Whole as OpWhole}
 use Rattle.array_model.specs.Script.{kind_at, sector_of}
-use Rattle.array_model.specs.Placement.{Place}
-use Rattle.array_model.specs.Causes.{told_of}
+use Rattle.array_model.specs.Placement.{Placement}
+use Rattle.array_model.specs.Causes.{array_state_of}
 use Rattle.array_model.specs.Rests.{is_owed, RestsAs, HasComeToRest}
 use Rattle.array_model.specs.Blocks.{Laid}
 use Rattle.array_model.proofs.Steps.{owner}
@@ -17,7 +17,7 @@ use Rattle.stage_machine.specs.Setting.{Setting}
 use Rattle.stage_machine.specs.Opens.{AsksFirst, IsFirstVolume, StartsFirstAlone}
 use Rattle.stage_machine.specs.States.{State, IsReadonly, IsReadAuto, IsClean, IsPending, IsActive, IsIdle, is_readonly, is_pending_state, next_dirty, Starts, decide}
 use Rattle.stage_machine.specs.Rounds.{Phase, Rest, Going, Ended, round_call, begin_with}
-use Rattle.stage_machine.specs.Jobs.{JobStep, Waiting, Writing, Syncing, Written, Got, Job, NoJob, Busy, Client, client_at, place_at, row_at, is_write, holds, locked_from, is_locked, is_writing, any_writing, Need, NoNeed, Reads, Writes, Syncs, Answers, read_need, write_need, sync_need, first_need, need_of, need_call}
+use Rattle.stage_machine.specs.Jobs.{JobStep, Waiting, Writing, Syncing, Written, Got, Job, NoJob, Busy, Client, client_at, placement_at, row_at, is_write, holds, locked_from, is_locked, is_writing, any_writing, Need, NoNeed, Reads, Writes, Syncs, Answers, read_need, write_need, sync_need, first_need, need_of, need_call}
 use Rattle.stage_machine.specs.Machine.{Control, World, Reached, Action, Monitors, Asks, Quiets, turn, turned_unless, turn_call, call_unless, moved, monitor_at, submit_write, submit_read, submit_kind, submit_unless, submit_next, meet, is_held, need_now, need_unless, client_by, job_call, quiet_if, quieted}
 use Rattle.stage_machine.proofs.Turns.{Has}
 use Rattle.stage_machine.proofs.Clients.{mine_reached, of_left, of_job, op_below}
@@ -44,14 +44,14 @@ of_row (op ∷ ops) all (suc i) lt = of_row ops all.1 i (omega (arith, lt))
 -- a client enters something when it submits such an operation
 submit_enters : (S : Setting) (c : Control) (k i : ℕ) (rest : List ℕ) (kind : Option OpKind) → IsOfRow kind → (submit_kind S c k i rest kind).events ≡ [] → ⊥
 submit_enters S c k i rest None row e = row
-submit_enters S c k i rest (Some (OpWrite v s value)) row e = at (place_at S i) e
+submit_enters S c k i rest (Some (OpWrite v s value)) row e = at (placement_at S i) e
   where
-    at : (place : Option Place) → (submit_write c k i rest place).events ≡ [] → ⊥
+    at : (place : Option Placement) → (submit_write c k i rest place).events ≡ [] → ⊥
     at None e = cc e
     at (Some place) e = cc e
-submit_enters S c k i rest (Some (OpRead v s)) row e = at (place_at S i) e
+submit_enters S c k i rest (Some (OpRead v s)) row e = at (placement_at S i) e
   where
-    at : (place : Option Place) → (submit_read c k i rest place).events ≡ [] → ⊥
+    at : (place : Option Placement) → (submit_read c k i rest place).events ≡ [] → ⊥
     at None e = cc e
     at (Some place) e = cc e
 submit_enters S c k i rest (Some (OpWhole v)) row e = cc row
@@ -326,6 +326,6 @@ module _ (S : Setting) (asks : AsksFirst S) (can : CanEnd S) (w : World) (r : Re
   told_at_rest volume alone = record {
     answered = ended.answered;
     recorded = course_reached S w r ∙ ap (phase_course c.round.started c.round.note) phase_rest ∙ ap resting_course started;
-    volumes = λ v is. subst (λ z. RestsAs (told_of S.start S.asked.ops w.journal z) (is_owed w.journal z)) (sym (alone v is))
+    volumes = λ v is. subst (λ z. RestsAs (array_state_of S.start S.asked.ops w.journal z) (is_owed w.journal z)) (sym (alone v is))
         (subst (λ t. RestsAs t (is_owed w.journal 0)) (sym (told_reached S asks volume w r)) rests_as);
   }

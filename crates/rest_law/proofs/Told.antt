@@ -5,7 +5,7 @@ use Rattle.std.proofs.lemmas.Bool.{eq-eqb}
 use Rattle.units.specs.declared.disk.Sector.{Sector}
 use Rattle.array_model.specs.Events.{has, is_ack_of}
 use Rattle.array_model.specs.Script.{is_of_client}
-use Rattle.array_model.specs.AnswerLaw.{Step, steps_of, steps_due}
+use Rattle.array_model.specs.AnswerLaw.{OpEvent, op_events_of, op_events_due}
 use Rattle.array_model.specs.Renewal.{FitsGeneration}
 use Rattle.array_model.specs.Causes.{Over}
 use Rattle.array_model.specs.Rests.{is_owed, RestsAs, HasComeToRest}
@@ -37,18 +37,18 @@ nothing_left S c k x got alive is = record {
 not_twice : (S : Setting) → AsksFirst S → (w : World) → Reached S w → (k i : ℕ) → is_of_client S.asked.ops k i ≡ true → has (is_ack_of i) w.journal ≡ true
     → 1 ≤ count_by (is_step true i) (todo (client_at w.control.clients k)) → ⊥
 not_twice S asks w r k i mine answered still =
-    let steps = steps_of S.asked.ops k w.journal in
-    let all : count_by (is_step true i) (steps_due S.asked.ops k) ≡ count_by (is_step true i) (steps ++ todo (client_at w.control.clients k)) =
+    let steps = op_events_of S.asked.ops k w.journal in
+    let all : count_by (is_step true i) (op_events_due S.asked.ops k) ≡ count_by (is_step true i) (steps ++ todo (client_at w.control.clients k)) =
     ap (λ xs. count_by (is_step true i) xs) (order_reached S asks w r k) in
     let parts = count_parts (is_step true i) steps (todo (client_at w.control.clients k)) in
     omega (arith, all, parts, still, has_counted (is_ack_of i) w.journal answered, tells_steps S.asked.ops k i mine true w.journal, due_once S.asked.ops k true i)
 
-ack_first : (i : ℕ) (more : List Step) → 1 ≤ count_by (is_step true i) (record { is_ack = true; op = i } ∷ more)
+ack_first : (i : ℕ) (more : List OpEvent) → 1 ≤ count_by (is_step true i) (record { is_ack = true; op = i } ∷ more)
 ack_first i more =
     let one : number (i == i) ≡ 1 = ap number (eq-eqb i i refl) in
     omega (arith, one, count-cons (is_step true i) (record { is_ack = true; op = i }) more)
 
-pair_first : (i : ℕ) (more : List Step) → 1 ≤ count_by (is_step true i) (record { is_ack = false; op = i } ∷ record { is_ack = true; op = i } ∷ more)
+pair_first : (i : ℕ) (more : List OpEvent) → 1 ≤ count_by (is_step true i) (record { is_ack = false; op = i } ∷ record { is_ack = true; op = i } ∷ more)
 pair_first i more =
     omega (arith, ack_first i more, count-cons (is_step true i) (record { is_ack = false; op = i }) (record { is_ack = true; op = i } ∷ more))
 

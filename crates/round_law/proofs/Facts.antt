@@ -10,7 +10,7 @@ use Rattle.array_model.specs.declared.journal.Event.{Event}
 use Rattle.array_model.specs.Blocks.{Laid, block_of}
 use Rattle.array_model.specs.Candidates.{Disk, In, Part, NoPart, ExtendedPart, AnchorPart, OtherPart, part_of, written, with_block, is_among, standing, noted, disk_at, disk_called, disk_from, writes}
 use Rattle.array_model.proofs.Journals.{all-append}
-use Rattle.stage_machine.specs.Setting.{Setting, has}
+use Rattle.stage_machine.specs.Setting.{Setting, has_disk}
 use Rattle.stage_machine.specs.Opens.{IsFirstVolume}
 use Rattle.stage_machine.specs.Rounds.{AtAnchor, Going}
 use Rattle.stage_machine.specs.Jobs.{JobStep, Busy, Writes, the_shape, row_at, value_at}
@@ -118,7 +118,7 @@ module _ (S : Setting) (volume : IsFirstVolume S) where
   writes_grow d n m log (Some x) le i = subst (In m) (sym (writes-snoc d n log x le)) (called_grows d (disk_from S.start.words S.start.disks d blank (drop n log)) m x i)
 
   -- an anchor writes its block
-  pub writes_anchor : (d n stored : ℕ) (m : Laid) (went : Bool) (log : List Call) → n ≤ length log → has d S.targets ≡ true → Good S m
+  pub writes_anchor : (d n stored : ℕ) (m : Laid) (went : Bool) (log : List Call) → n ≤ length log → has_disk d S.targets ≡ true → Good S m
       → In m (writes S.start.words S.start.disks d (drop n (log ++ record { disk = d; what = Write (anchor_place (S.start.disks.sectors d)) (m.anchor ∷ []) stored; went = went } ∷ [])))
   writes_anchor d n stored m went log le target good =
       let k = disk_from S.start.words S.start.disks d blank (drop n log) in

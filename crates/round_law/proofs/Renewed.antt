@@ -11,7 +11,7 @@ use Rattle.array_model.specs.Blocks.{Laid}
 use Rattle.array_model.specs.Events.{AtEach, AtEachFrom}
 use Rattle.array_model.specs.Moments.{AllBelow}
 use Rattle.array_model.specs.Rounds.{IsFinished}
-use Rattle.array_model.specs.Causes.{Told, told_of, needs_dirty}
+use Rattle.array_model.specs.Causes.{ArrayState, array_state_of, needs_dirty}
 use Rattle.array_model.specs.Renewal.{FitsGeneration}
 use Rattle.array_model.specs.RoundBlocks.{BeginsRenewed, RoundsAreRenewed}
 use Rattle.array_model.proofs.Journals.{at_each_more, at_each_map, at_each_log}
@@ -32,8 +32,8 @@ use Rattle.round_law.proofs.Facts.{gen, KindOf, kind_turns, marks_more}
 use Rattle.round_law.proofs.Law.{Kept, GoingFacts, kept_reached, is_finished, has_finished}
 
 -- the state of volume 0 that a journal tells
-abbrev told : Setting → List Entry → Told
-told S journal = told_of S.start S.asked.ops journal 0
+abbrev told : Setting → List Entry → ArrayState
+told S journal = array_state_of S.start S.asked.ops journal 0
 
 -- A ROUND THAT HAS BEGUN
 

@@ -10,7 +10,7 @@ use Rattle.array_model.specs.declared.journal.Event.{Event}
 use Rattle.array_model.specs.declared.journal.Event.TheVariants.{Submit, Ack}
 use Rattle.array_model.specs.declared.journal.Answer.{Answer}
 use Rattle.array_model.specs.declared.journal.Answer.TheVariants.{Done, Value, Past, Failed, NoSpare}
-use Rattle.array_model.specs.Script.{Target, kind_at, write_at}
+use Rattle.array_model.specs.Script.{VolumeWrite, kind_at, write_at}
 use Rattle.array_model.specs.Events.{AtEachFrom}
 use Rattle.array_model.specs.Moments.{AllBelow}
 use Rattle.array_model.specs.AnswerLaw.{submitted_from}
@@ -48,7 +48,7 @@ module _ (S : Setting) (log : List Call) (x : Option Call) where
         h.stays k call behind until (made_before log x k call within is) on;
   }
 
-  done_more : (front : List Entry) (since stamp : ℕ) (t : Option Target) → stamp ≤ length log → DoneFrom S.start log front since stamp t → DoneFrom S.start (log_after log x) front since stamp t
+  done_more : (front : List Entry) (since stamp : ℕ) (t : Option VolumeWrite) → stamp ≤ length log → DoneFrom S.start log front since stamp t → DoneFrom S.start (log_after log x) front since stamp t
   done_more front since stamp None made h = tt
   done_more front since stamp (Some t) made h = record {
     disk = h.disk;

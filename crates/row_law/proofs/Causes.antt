@@ -17,7 +17,7 @@ use Rattle.array_model.specs.Moments.{AllBelow, EachCallFrom}
 use Rattle.array_model.specs.Renewal.{FitsGeneration}
 use Rattle.array_model.specs.RowCalls.{IsRowOn, IsInRound, IsUnderWay, IsWriting, IsReading, HasCause, CallsHaveCauses}
 use Rattle.array_model.specs.Causes.{GoesOn, course_of}
-use Rattle.stage_machine.specs.Setting.{Setting, Renews, has}
+use Rattle.stage_machine.specs.Setting.{Setting, Renews, has_disk}
 use Rattle.stage_machine.specs.Opens.{AsksFirst, StandsOnAll, IsFirstVolume}
 use Rattle.stage_machine.specs.Rounds.{Step, AtAnchor, AtSync, Going}
 use Rattle.stage_machine.specs.Jobs.{JobStep, Busy, Need, NoNeed, row_at, value_at, is_write, sector_in, Reads, Writes, Syncs}
@@ -75,7 +75,7 @@ module _ (S : Setting) (asks : AsksFirst S) (on : StandsOnAll S) (volume : IsFir
       → is_live 0 journal ≡ true
   live_at_write k i left step need here is some w = word ∙ ap live (goes_active S c k i left step need writable here is some w)
 
-  abbrev writing : (k i : ℕ) (left : List ℕ) (step : JobStep) (d : ℕ) → Has c k left (Busy i step) → has d S.members ≡ true → is_write S i ≡ true → is_live 0 journal ≡ true
+  abbrev writing : (k i : ℕ) (left : List ℕ) (step : JobStep) (d : ℕ) → Has c k left (Busy i step) → has_disk d S.members ≡ true → is_write S i ≡ true → is_live 0 journal ≡ true
       → IsWriting S.start S.asked.ops journal d (at_row S (row_at S i))
   writing k i left step d here member w alive =
       let job : IsJob S k i step = of_job S c k i left step mine here in
@@ -88,7 +88,7 @@ module _ (S : Setting) (asks : AsksFirst S) (on : StandsOnAll S) (volume : IsFir
         row = op_row S volume i d job.place job.placed member;
       }
 
-  reading : (k i : ℕ) (left : List ℕ) (step : JobStep) (d : ℕ) → Has c k left (Busy i step) → has d S.members ≡ true → (kind : Option OpKind) → kind_at S.asked.ops i ≡ kind → is_read_kind kind ≡ true
+  reading : (k i : ℕ) (left : List ℕ) (step : JobStep) (d : ℕ) → Has c k left (Busy i step) → has_disk d S.members ≡ true → (kind : Option OpKind) → kind_at S.asked.ops i ≡ kind → is_read_kind kind ≡ true
       → IsReading S.start S.asked.ops journal d (at_row S (row_at S i))
   reading k i left step d here member None is r = absurd cc
   reading k i left step d here member (Some (OpWrite v s value)) is r = absurd cc
@@ -119,7 +119,7 @@ module _ (S : Setting) (asks : AsksFirst S) (on : StandsOnAll S) (volume : IsFir
       let w = need_is S c k i left step (Syncs d ds) fits here need in
       inr (at_row S (row_at S i), writing k i left step d here member w (live_at_write k i left step _ here need (λ none. absurd cc) w))
   cause_asked _ _ (get k i left step d here need) =
-      let member : has d S.members ≡ true = subst (NeedIn S.members) need (need_in S c k i step (of_job S c k i left step mine here).inside) in
+      let member : has_disk d S.members ≡ true = subst (NeedIn S.members) need (need_in S c k i step (of_job S c k i left step mine here).inside) in
       reading k i left step d here member (kind_at S.asked.ops i) refl (need_is S c k i left step (Reads d) fits here need)
 
 -- A LONGER LOG

@@ -14,7 +14,7 @@ use Rattle.array_model.specs.Events.{has as has_event, is_submit}
 use Rattle.array_model.specs.Moments.{AllBelow}
 use Rattle.array_model.specs.AnswerLaw.{submitted_from}
 use Rattle.array_model.specs.RowCalls.{WentAt, IsWrittenOn}
-use Rattle.stage_machine.specs.Setting.{Setting, has}
+use Rattle.stage_machine.specs.Setting.{Setting, has_disk}
 use Rattle.stage_machine.specs.Opens.{IsFirstVolume}
 use Rattle.stage_machine.specs.States.{State, IsReadonly, IsReadAuto, IsClean, IsPending, IsActive, IsIdle, asked_events}
 use Rattle.stage_machine.specs.Jobs.{JobStep, Waiting, Writing, Syncing, Written, Got, Job, NoJob, Busy, Client, row_at, value_at, holds_by, Reads, Writes, Syncs, after_write, after_sync}
@@ -44,22 +44,22 @@ IsSynced S log i since d = IsWrittenOn log since (length log) d (at_row S (row_a
 pub record IsGot (S : Setting) (log : List Call) (i since : ℕ) : Type 0 where
   pub read : ℕ
   pub disk : ℕ
-  pub member : has disk S.members ≡ true
+  pub member : has_disk disk S.members ≡ true
   pub from : since ≤ read
   pub went : WentAt log read disk (Read (at_row S (row_at S i)))
 
 -- of each member but those left
 abbrev pub OnBut : Setting → List ℕ → (ℕ → Type 0) → Type 0
-OnBut S left P = (d : ℕ) → has d S.members ≡ true → has d left ≡ false → P d
+OnBut S left P = (d : ℕ) → has_disk d S.members ≡ true → has_disk d left ≡ false → P d
 
 pub record PutBut (S : Setting) (log : List Call) (i since : ℕ) (left : List ℕ) : Type 0 where
   pub disk : ℕ
-  pub member : has disk S.members ≡ true
+  pub member : has_disk disk S.members ≡ true
   pub put : OnBut S left (IsPut S log i since)
 
 pub record SyncedBut (S : Setting) (log : List Call) (i since : ℕ) (left : List ℕ) : Type 0 where
   pub disk : ℕ
-  pub member : has disk S.members ≡ true
+  pub member : has_disk disk S.members ≡ true
   pub put : OnBut S [] (IsPut S log i since)
   pub synced : OnBut S left (IsSynced S log i since)
 
@@ -205,7 +205,7 @@ module _ (S : Setting) (volume : IsFirstVolume S) (log : List Call) (journal : L
   -- a member is written
   put_but : (k i : ℕ) (left : List ℕ) (step : JobStep) (d : ℕ) (ds : List ℕ) → Has c k left (Busy i step) → need_now S c k i step ≡ Writes d ds → OnBut S (d ∷ ds) (IsPut S log i (submitted_from i 0 journal))
   put_but k i left step d ds here need = elim (writes_from S c k i step d ds (needs S c k i step _ need (λ none. absurd cc))) [
-    | inl waits ↦ λ e member out. absurd (let inside : has e (d ∷ ds) ≡ true = subst (λ ms. has e ms ≡ true) waits.1 member in cc (inside, out))
+    | inl waits ↦ λ e member out. absurd (let inside : has_disk e (d ∷ ds) ≡ true = subst (λ ms. has_disk e ms ≡ true) waits.1 member in cc (inside, out))
     | inr writes ↦ (subst (StepCalls S log i (submitted_from i 0 journal)) writes (step_calls S log journal c old k i left step here)).put
   ]
 
@@ -216,7 +216,7 @@ module _ (S : Setting) (volume : IsFirstVolume S) (log : List Call) (journal : L
       y : Call
       y = call d (Write (at_row S (row_at S i)) (value_at S i ∷ []) 1) true
 
-      is_member : has d S.members ≡ true
+      is_member : has_disk d S.members ≡ true
       is_member = (subst (NeedIn S.members) need (need_in S c k i step (of_job S c k i left step mine here).inside)).0
 
       -- it is the last call
@@ -249,7 +249,7 @@ module _ (S : Setting) (volume : IsFirstVolume S) (log : List Call) (journal : L
       before : SyncedBut S log i (submitted_from i 0 journal) (d ∷ ds)
       before = subst (StepCalls S log i (submitted_from i 0 journal)) (syncs_from S c k i step d ds (needs S c k i step _ need (λ none. absurd cc))) (step_calls S log journal c old k i left step here)
 
-      is_member : has d S.members ≡ true
+      is_member : has_disk d S.members ≡ true
       is_member = (subst (NeedIn S.members) need (need_in S c k i step (of_job S c k i left step mine here).inside)).0
 
       now : IsSynced S (log ++ y ∷ []) i (submitted_from i 0 journal) d

@@ -5,7 +5,7 @@ use Rattle.std.proofs.lemmas.Bool.Decides.{nat_tests}
 use Rattle.units.specs.Places.{anchor_place}
 use Rattle.device_log.specs.Log.{Call, What, Write}
 use Rattle.array_model.specs.RowCalls.{Spares}
-use Rattle.stage_machine.specs.Setting.{Setting, has}
+use Rattle.stage_machine.specs.Setting.{Setting, has_disk}
 use Rattle.stage_machine.specs.Opens.{IsFirstVolume}
 use Rattle.stage_machine.specs.Jobs.{JobStep, Waiting, Writing, Syncing, Written, Got, Job, Busy, client_at, row_at, holds, holds_by, Need, NoNeed, Writes}
 use Rattle.stage_machine.specs.Machine.{Control, need_now, log_after}
@@ -82,17 +82,17 @@ module _ (S : Setting) (volume : IsFirstVolume S) (c : Control) (mine : Mine S c
       at false e = e
 
   -- a job writes the members that it hasn't written
-  own_job : (k i : ℕ) (step : JobStep) (d : ℕ) (ds : List ℕ) → need_now S c k i step ≡ Writes d ds → holds_by S (row_at S i) i step ≡ true → has d (unwritten step) ≡ true
+  own_job : (k i : ℕ) (step : JobStep) (d : ℕ) (ds : List ℕ) → need_now S c k i step ≡ Writes d ds → holds_by S (row_at S i) i step ≡ true → has_disk d (unwritten step) ≡ true
   own_job k i step d ds need holding = elim (writes_from S c k i step d ds (needs S c k i step _ need (λ none. absurd cc))) [
     | inl waits ↦ absurd (let free : holds_by S (row_at S i) i step ≡ false = ap (holds_by S (row_at S i) i) waits.0 in cc (free, holding))
     | inr writes ↦
         let first : (d == d) ≡ true = grind (arith, nat_tests) in
-        subst (λ z. has d (unwritten z) ≡ true) (sym writes) (rw first refl)
+        subst (λ z. has_disk d (unwritten z) ≡ true) (sym writes) (rw first refl)
   ]
 
   -- what is asked of a member that a job has written doesn't write the job's row
   pub asked_leaves : (e : ℕ) (what : What) → AsksFor S c e what → (j m : ℕ) (step : JobStep) → job_of c.clients j ≡ Busy m step → holds_by S (row_at S m) m step ≡ true
-      → (d : ℕ) → has d S.members ≡ true → has d (unwritten step) ≡ false → e ≡ d → Spares (at_row S (row_at S m)) what
+      → (d : ℕ) → has_disk d S.members ≡ true → has_disk d (unwritten step) ≡ false → e ≡ d → Spares (at_row S (row_at S m)) what
   asked_leaves _ _ (anchor b e ds stored is) j m step busy holding d member out same =
       let job : IsJob S j m step = of_job S c j m (client_at c.clients j).left step mine (ap (λ (z : Job). record { left = (client_at c.clients j).left; job = z }) busy) in
       let below = row_below S volume.level m job.place job.placed in
@@ -109,8 +109,8 @@ module _ (S : Setting) (volume : IsFirstVolume S) (c : Control) (mine : Mine S c
           let op : m ≡ i = cc is_own in
           let at_step : step ≡ own = cc is_own in
           let holds_own : holds_by S (row_at S i) i own ≡ true = subst (λ z. holds_by S (row_at S z) z own ≡ true) op (subst (λ z. holds_by S (row_at S m) m z ≡ true) at_step holding) in
-          let inside : has e (unwritten own) ≡ true = own_job k i own e ds need holds_own in
-          let outside : has e (unwritten own) ≡ false = subst (λ z. has z (unwritten own) ≡ false) (sym same) (subst (λ z. has d (unwritten z) ≡ false) at_step out) in
+          let inside : has_disk e (unwritten own) ≡ true = own_job k i own e ds need holds_own in
+          let outside : has_disk e (unwritten own) ≡ false = subst (λ z. has_disk z (unwritten own) ≡ false) (sym same) (subst (λ z. has_disk d (unwritten z) ≡ false) at_step out) in
           cc (inside, outside))
       at false is =
           let unlike : j ≢ k = λ equal. absurd (let yes_same : (j == k) ≡ true = grind (arith, nat_tests, equal) in cc (yes_same, is)) in

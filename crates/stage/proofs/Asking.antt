@@ -8,8 +8,8 @@ use Rattle.array_model.specs.declared.script.OpKind.{OpKind}
 use Rattle.array_model.specs.declared.script.OpKind.TheVariants.{Write as OpWrite, Read as OpRead, Whole as OpWhole}
 use Rattle.array_model.specs.Script.{kind_at}
 use Rattle.array_model.specs.Blocks.{Laid}
-use Rattle.array_model.specs.Placement.{place_of}
-use Rattle.stage_machine.specs.Setting.{has}
+use Rattle.array_model.specs.Placement.{placement_of}
+use Rattle.stage_machine.specs.Setting.{has_disk}
 use Rattle.stage_machine.specs.Rounds.{Ended}
 use Rattle.stage_machine.specs.Jobs as jobs
 use Rattle.stage_machine.specs.Jobs.{client_at, Busy, NoJob, NoNeed, Reads, Writes, Syncs, Answers, row_at, row_in, sector_in, need_call}
@@ -32,38 +32,38 @@ disk_in (Writes d ds) = Some d
 disk_in (Syncs d ds) = Some d
 disk_in (Answers answer) = None
 
-reads_has : (n d : ℕ) (members left : List ℕ) → drop n members ≡ left → disk_in (jobs.read_need left) ≡ Some d → has d members ≡ true
+reads_has : (n d : ℕ) (members left : List ℕ) → drop n members ≡ left → disk_in (jobs.read_need left) ≡ Some d → has_disk d members ≡ true
 reads_has n d members [] is some = absurd (cc some)
 reads_has n d members (e ∷ es) is some = let same : e ≡ d = cc some in drop_has n d es members (rw (← same) is)
 
-writes_has : (n d : ℕ) (members left : List ℕ) → drop n members ≡ left → disk_in (jobs.write_need left) ≡ Some d → has d members ≡ true
+writes_has : (n d : ℕ) (members left : List ℕ) → drop n members ≡ left → disk_in (jobs.write_need left) ≡ Some d → has_disk d members ≡ true
 writes_has n d members [] is some = absurd (cc some)
 writes_has n d members (e ∷ es) is some = let same : e ≡ d = cc some in drop_has n d es members (rw (← same) is)
 
-syncs_has : (n d : ℕ) (members left : List ℕ) → drop n members ≡ left → disk_in (jobs.sync_need left) ≡ Some d → has d members ≡ true
+syncs_has : (n d : ℕ) (members left : List ℕ) → drop n members ≡ left → disk_in (jobs.sync_need left) ≡ Some d → has_disk d members ≡ true
 syncs_has n d members [] is some = absurd (cc some)
 syncs_has n d members (e ∷ es) is some = let same : e ≡ d = cc some in drop_has n d es members (rw (← same) is)
 
-first_has : (p : Plan) (d : ℕ) (kind : Option OpKind) → disk_in (jobs.first_need (plan_setting p) kind) ≡ Some d → has d (numbers p.members.items) ≡ true
+first_has : (p : Plan) (d : ℕ) (kind : Option OpKind) → disk_in (jobs.first_need (plan_setting p) kind) ≡ Some d → has_disk d (numbers p.members.items) ≡ true
 first_has p d None some = absurd (cc some)
 first_has p d (Some (OpWrite v s value)) some = writes_has 0 d (numbers p.members.items) (numbers p.members.items) refl some
 first_has p d (Some (OpRead v s)) some = reads_has 0 d (numbers p.members.items) (numbers p.members.items) refl some
 first_has p d (Some (OpWhole v)) some = absurd (cc some)
 
-step_has : (p : Plan) (i d : ℕ) (step : JobStep) → disk_in (jobs.need_of (plan_setting p) i (step_of (numbers p.members.items) step)) ≡ Some d → has d (numbers p.members.items) ≡ true
+step_has : (p : Plan) (i d : ℕ) (step : JobStep) → disk_in (jobs.need_of (plan_setting p) i (step_of (numbers p.members.items) step)) ≡ Some d → has_disk d (numbers p.members.items) ≡ true
 step_has p i d Waiting some = first_has p d (kind_at p.ops.items i) some
 step_has p i d (Writing at) some = writes_has at d (numbers p.members.items) (drop at (numbers p.members.items)) refl some
 step_has p i d (Syncing at) some = syncs_has at d (numbers p.members.items) (drop at (numbers p.members.items)) refl some
 step_has p i d Written some = absurd (cc some)
 step_has p i d (Got value) some = absurd (cc some)
 
-unless_has : (p : Plan) (i d : ℕ) (step : JobStep) (held : Bool) → disk_in (need_unless (plan_setting p) i (step_of (numbers p.members.items) step) held) ≡ Some d → has d (numbers p.members.items) ≡ true
+unless_has : (p : Plan) (i d : ℕ) (step : JobStep) (held : Bool) → disk_in (need_unless (plan_setting p) i (step_of (numbers p.members.items) step) held) ≡ Some d → has_disk d (numbers p.members.items) ≡ true
 unless_has p i d step true some = absurd (cc some)
 unless_has p i d step false some = step_has p i d step some
 
 -- a disk that a job needs is a member
 pub needed_has : (p : Plan) (c : Control) (k i d : ℕ) (step : JobStep) (n : jobs.Need) → n ≡ need_now (plan_setting p) c k i (step_of (numbers p.members.items) step) → disk_in n ≡ Some d
-    → has d (numbers p.members.items) ≡ true
+    → has_disk d (numbers p.members.items) ≡ true
 needed_has p c k i d step n is some = unless_has p i d step (is_held (plan_setting p) c k i) (sym (ap disk_in is) ∙ some)
 
 below : (a b : ℕ) → nat_lt a b ≡ true → a < b
@@ -73,11 +73,11 @@ below a b is = grind (arith, nat_tests)
 pub row_below : (p : Plan) (i : ℕ) → 0 < p.size → row_at (plan_setting p) i < p.size
 row_below p i some = at (sector_in (kind_at p.ops.items i))
   where
-    by : (s : ℕ) (b : Bool) → nat_lt s p.size ≡ b → row_in (place_of (shape_of p) s) < p.size
+    by : (s : ℕ) (b : Bool) → nat_lt s p.size ≡ b → row_in (placement_of (shape_of p) s) < p.size
     by s true is = rw is (below s p.size is)
     by s false is = rw is some
 
-    at : (s : ℕ) → row_in (place_of (shape_of p) s) < p.size
+    at : (s : ℕ) → row_in (placement_of (shape_of p) s) < p.size
     at s = by s (nat_lt s p.size) refl
 
 -- TURNS

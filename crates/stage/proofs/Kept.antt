@@ -3,7 +3,7 @@ use Rattle.std.proofs.Common.{◌≡◌, ℕ, ◌+◌, Bool, true, false, not, L
 use Rattle.units.specs.declared.disk.Serial.{Serial}
 use Rattle.array_model.specs.declared.script.OpKind.{OpKind}
 use Rattle.array_model.specs.declared.script.OpKind.TheVariants.{Write as OpWrite, Read as OpRead, Whole as OpWhole}
-use Rattle.array_model.specs.Placement.{Place}
+use Rattle.array_model.specs.Placement.{Placement}
 use Rattle.array_model.specs.Script.{kind_at}
 use Rattle.std.proofs.lemmas.List.{append-nil}
 use Rattle.device_log.specs.Log.{Call}
@@ -11,7 +11,7 @@ use Rattle.member_bank.specs.Faults.{Rose}
 use Rattle.stage_machine.specs.Setting.{Setting}
 use Rattle.stage_machine.specs.Rounds.{Phase, Rest, Going, Ended}
 use Rattle.stage_machine.specs.States.{State, IsReadonly, IsReadAuto, IsClean, IsPending, IsActive, IsIdle, Move, Nothing, Starts, Makes, decide, is_readonly}
-use Rattle.stage_machine.specs.Jobs.{place_at, any_writing}
+use Rattle.stage_machine.specs.Jobs.{placement_at, any_writing}
 use Rattle.stage_machine.specs.Machine.{Control, Out, monitor_at, moved, submit_next, submit_unless, submit_kind, submit_write, submit_read, quieted, quiet_if}
 use Rattle.control_state.specs.Rounds.{next_ask}
 use Rattle.stage.specs.Stages.{Seen}
@@ -33,18 +33,18 @@ rest_live S c x Rest none = moved_live S c (decide c.round.started c.state (S.st
 rest_live S c x (Going m step []) none = refl
 rest_live S c x (Going m step (d ∷ ds)) none = absurd (cc none)
 
-write_live : (c : Control) (k i : ℕ) (rest : List ℕ) (place : Option Place) → failed_in (submit_write c k i rest place) ≡ c.failed
+write_live : (c : Control) (k i : ℕ) (rest : List ℕ) (place : Option Placement) → failed_in (submit_write c k i rest place) ≡ c.failed
 write_live c k i rest None = refl
 write_live c k i rest (Some place) = refl
 
-read_live : (c : Control) (k i : ℕ) (rest : List ℕ) (place : Option Place) → failed_in (submit_read c k i rest place) ≡ c.failed
+read_live : (c : Control) (k i : ℕ) (rest : List ℕ) (place : Option Placement) → failed_in (submit_read c k i rest place) ≡ c.failed
 read_live c k i rest None = refl
 read_live c k i rest (Some place) = refl
 
 kind_live : (S : Setting) (c : Control) (k i : ℕ) (rest : List ℕ) (kind : Option OpKind) → failed_in (submit_kind S c k i rest kind) ≡ c.failed
 kind_live S c k i rest None = refl
-kind_live S c k i rest (Some (OpWrite v s value)) = write_live c k i rest (place_at S i)
-kind_live S c k i rest (Some (OpRead v s)) = read_live c k i rest (place_at S i)
+kind_live S c k i rest (Some (OpWrite v s value)) = write_live c k i rest (placement_at S i)
+kind_live S c k i rest (Some (OpRead v s)) = read_live c k i rest (placement_at S i)
 kind_live S c k i rest (Some (OpWhole v)) = refl
 
 unless_live : (S : Setting) (c : Control) (k i : ℕ) (rest : List ℕ) (readonly : Bool) → failed_in (submit_unless S c k i rest readonly) ≡ c.failed

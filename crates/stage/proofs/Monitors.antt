@@ -6,7 +6,7 @@ use Rattle.std.specs.Prelude.{slice_index, if◌then◌else◌}
 use Rattle.device_log.specs.Log.{Call, What}
 use Rattle.member_bank.specs.Told.{Logs}
 use Rattle.array_model.specs.Blocks.{Laid}
-use Rattle.stage_machine.specs.Setting.{Setting, has}
+use Rattle.stage_machine.specs.Setting.{Setting, has_disk}
 use Rattle.stage_machine.specs.Rounds as rounds
 use Rattle.stage_machine.specs.Rounds.{Ended, round_call, what_of}
 use Rattle.stage_machine.specs.Machine.{Control, Action, Monitors, Out, turn, turned, turned_unless, turn_call, call_of, call_unless, calls_after, monitor_at, put_round, dropped}
@@ -80,7 +80,7 @@ call_is S x targets m Rest d step is = absurd (cc is)
 call_is S x targets m (Going s at) d step is = call_by S x m step (step_of s) d (drop at targets) is
 
 -- the disk that is asked is one that is left
-pub drop_has : (n d : ℕ) (ds xs : List ℕ) → drop n xs ≡ d ∷ ds → has d xs ≡ true
+pub drop_has : (n d : ℕ) (ds xs : List ℕ) → drop n xs ≡ d ∷ ds → has_disk d xs ≡ true
 drop_has n d ds [] is = absurd (none n is)
   where
     none : (n : ℕ) → drop n [] ≡ d ∷ ds → ⊥
@@ -88,18 +88,18 @@ drop_has n d ds [] is = absurd (none n is)
     none (suc n) is = absurd (cc is)
 drop_has zero d ds (x ∷ xs) is = let same : x ≡ d = cc is in rw same (first d)
   where
-    first : (d : ℕ) → (d == d) || has d xs ≡ true
+    first : (d : ℕ) → (d == d) || has_disk d xs ≡ true
     first d = grind (arith, nat_tests)
 drop_has (suc n) d ds (x ∷ xs) is = later (drop_has n d ds xs is)
   where
-    later : has d xs ≡ true → (x == d) || has d xs ≡ true
+    later : has_disk d xs ≡ true → (x == d) || has_disk d xs ≡ true
     later is = rw is (or-true (x == d))
 
-asked_by : (m : Laid) (of step : rounds.Step) (n d : ℕ) (targets left : List ℕ) → drop n targets ≡ left → next_ask (rounds.Going m of left) ≡ Some (d, step) → has d targets ≡ true
+asked_by : (m : Laid) (of step : rounds.Step) (n d : ℕ) (targets left : List ℕ) → drop n targets ≡ left → next_ask (rounds.Going m of left) ≡ Some (d, step) → has_disk d targets ≡ true
 asked_by m of step n d targets [] is ask = absurd (cc ask)
 asked_by m of step n d targets (e ∷ es) is ask = let same : e ≡ d = ap asked_disk ask in drop_has n d es targets (rw (← same) is)
 
-pub asked_has : (targets : List ℕ) (m : Laid) (phase : Phase) (d : ℕ) (step : rounds.Step) → next_ask (phase_of targets m phase) ≡ Some (d, step) → has d targets ≡ true
+pub asked_has : (targets : List ℕ) (m : Laid) (phase : Phase) (d : ℕ) (step : rounds.Step) → next_ask (phase_of targets m phase) ≡ Some (d, step) → has_disk d targets ≡ true
 asked_has targets m Rest d step is = absurd (cc is)
 asked_has targets m (Going s at) d step is = asked_by m (step_of s) step at d targets (drop at targets) refl is
 

@@ -9,13 +9,13 @@ use Rattle.array_model.specs.declared.script.OpKind.TheVariants.{Write as OpWrit
 use Rattle.array_model.specs.declared.journal.Entry.{Entry}
 use Rattle.array_model.specs.declared.journal.Event.{Event}
 use Rattle.array_model.specs.Blocks.{Laid}
-use Rattle.array_model.specs.Placement.{Place}
+use Rattle.array_model.specs.Placement.{Placement}
 use Rattle.array_model.specs.Room.{BeginsWithRoom}
 use Rattle.array_model.specs.Script.{kind_at}
 use Rattle.stage_machine.specs.Setting.{Setting}
 use Rattle.stage_machine.specs.Rounds.{Phase, Rest, Going, Step, AtAnchor, AtSync, Ended, begin_with, to_next, step_on}
 use Rattle.stage_machine.specs.States.{State, IsReadonly, IsReadAuto, IsClean, IsPending, IsActive, IsIdle, Move, Nothing, Starts, Makes, decide, next_dirty, is_readonly}
-use Rattle.stage_machine.specs.Jobs.{Job, NoJob, Busy, Got, Need, NoNeed, Reads, Writes, Syncs, Answers, client_at, place_at, any_writing, after_write, after_sync}
+use Rattle.stage_machine.specs.Jobs.{Job, NoJob, Busy, Got, Need, NoNeed, Reads, Writes, Syncs, Answers, client_at, placement_at, any_writing, after_write, after_sync}
 use Rattle.stage_machine.specs.Machine.{Control, Action, Monitors, Asks, Quiets, Out, turn, turned, turned_unless, call_of, calls_after, stamped, moved, put_round, called, monitor_at, submit_write, submit_read, submit_kind, submit_unless, submit_next, put_client, meet, need_now, client_by, quieted, quiet_if}
 use Rattle.control_state.specs.declared.plan.Plan.{Plan}
 use Rattle.control_state.specs.declared.control.Events.{Events}
@@ -100,18 +100,18 @@ monitor_rises S c x Rest = moved_rises S c (decide c.round.started c.state (S.st
 monitor_rises S c x (Going m step []) = omega arith
 monitor_rises S c x (Going m step (d ∷ ds)) = called_rises x.went d (put_round c (step_on S c.round m step d ds)) c (step_rises S c m step d ds)
 
-write_rises : (c : Control) (k i : ℕ) (rest : List ℕ) (place : Option Place) → Rises c (submit_write c k i rest place)
+write_rises : (c : Control) (k i : ℕ) (rest : List ℕ) (place : Option Placement) → Rises c (submit_write c k i rest place)
 write_rises c k i rest None = omega arith
 write_rises c k i rest (Some place) = omega arith
 
-read_rises : (c : Control) (k i : ℕ) (rest : List ℕ) (place : Option Place) → Rises c (submit_read c k i rest place)
+read_rises : (c : Control) (k i : ℕ) (rest : List ℕ) (place : Option Placement) → Rises c (submit_read c k i rest place)
 read_rises c k i rest None = omega arith
 read_rises c k i rest (Some place) = omega arith
 
 kind_rises : (S : Setting) (c : Control) (k i : ℕ) (rest : List ℕ) (kind : Option OpKind) → Rises c (submit_kind S c k i rest kind)
 kind_rises S c k i rest None = omega arith
-kind_rises S c k i rest (Some (OpWrite v s value)) = write_rises c k i rest (place_at S i)
-kind_rises S c k i rest (Some (OpRead v s)) = read_rises c k i rest (place_at S i)
+kind_rises S c k i rest (Some (OpWrite v s value)) = write_rises c k i rest (placement_at S i)
+kind_rises S c k i rest (Some (OpRead v s)) = read_rises c k i rest (placement_at S i)
 kind_rises S c k i rest (Some (OpWhole v)) = omega arith
 
 unless_rises : (S : Setting) (c : Control) (k i : ℕ) (rest : List ℕ) (readonly : Bool) → Rises c (submit_unless S c k i rest readonly)

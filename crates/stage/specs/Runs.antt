@@ -7,7 +7,7 @@ use Rattle.member_bank.specs.Told.{Keeps, Logs, Gives}
 use Rattle.array_model.specs.declared.journal.Entry.{Entry}
 use Rattle.array_model.specs.Blocks.{Laid}
 use Rattle.array_model.specs.Start.{disks_of}
-use Rattle.stage_machine.specs.Setting.{Setting, has}
+use Rattle.stage_machine.specs.Setting.{Setting, has_disk}
 use Rattle.stage_machine.specs.Machine.{Control, Action, Out, Reached, Honest, turned, call_of, calls_after, got_of}
 use Rattle.control_state.specs.declared.plan.Plan.{Plan}
 use Rattle.control_state.specs.Seen.{plan_setting, numbers}
@@ -22,8 +22,9 @@ run_setting p newest sizes = record (plan_setting p) {
 pub record FitsDisks (targets members : List ℕ) (pba size : ℕ) (sizes : List ℕ) : Type 0 where
   pub some : 0 < size
   pub below : pba + size < 2 ^ 64
-  pub targets_there : (d : ℕ) → has d targets ≡ true → (d < length sizes) × (METADATA_SECTORS ≤ slice_index sizes d)
-  pub members_there : (d : ℕ) → has d members ≡ true → (d < length sizes) × (pba + size ≤ slice_index sizes d)
+  pub targets_there : (d : ℕ) → has_disk d targets ≡ true
+      → (d < length sizes) × (METADATA_SECTORS ≤ slice_index sizes d)
+  pub members_there : (d : ℕ) → has_disk d members ≡ true → (d < length sizes) × (pba + size ≤ slice_index sizes d)
 
 -- so are those of a plan
 abbrev pub FitsBank : Plan → List ℕ → Type 0

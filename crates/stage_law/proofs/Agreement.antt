@@ -8,20 +8,20 @@ use Rattle.array_model.specs.declared.script.Ask.{Ask}
 use Rattle.array_model.specs.declared.script.OpKind.{OpKind}
 use Rattle.array_model.specs.declared.script.OpKind.TheVariants.{Write as OpWrite, Read as OpRead, Whole as OpWhole}
 use Rattle.array_model.specs.Blocks.{Laid}
-use Rattle.array_model.specs.Placement.{Shape, place_of}
+use Rattle.array_model.specs.Placement.{Shape, placement_of}
 use Rattle.array_model.specs.Script.{kind_at}
 use Rattle.array_model.specs.Start.{Disks}
 use Rattle.stage_machine.specs.Setting.{Setting}
 use Rattle.stage_machine.specs.Rounds.{Round, Phase, Rest, Going, Step, AtAnchor, AtSync, Ended, stored_of, what_of, round_call, to_next, step_on}
 use Rattle.stage_machine.specs.States.{State, IsReadonly, IsReadAuto, IsClean, IsPending, IsActive, IsIdle, Move, Nothing, Starts, Makes, decide, is_readonly, is_pending_state}
-use Rattle.stage_machine.specs.Jobs.{JobStep, Waiting, Writing, Syncing, Written, Got, Job, NoJob, Busy, Client, client_at, holds, locked_from, is_writing, any_writing, is_write, row_at, row_in, place_at, sector_in, value_at, the_shape, Need, NoNeed, Reads, Writes, Syncs, Answers, need_of, need_call, first_need, after_write}
+use Rattle.stage_machine.specs.Jobs.{JobStep, Waiting, Writing, Syncing, Written, Got, Job, NoJob, Busy, Client, client_at, holds, locked_from, is_writing, any_writing, is_write, row_at, row_in, placement_at, sector_in, value_at, the_shape, Need, NoNeed, Reads, Writes, Syncs, Answers, need_of, need_call, first_need, after_write}
 use Rattle.stage_machine.specs.Machine.{Control, Action, Monitors, Asks, Quiets, monitor_at, moved, put_round, called, put_client, submit_next, submit_unless, submit_kind, submit_write, submit_read, need_now, need_unless, is_held, meet, client_by, job_call, quieted, quiet_if, turn, turned_unless, turn_call, call_unless}
 use Rattle.stage_machine.proofs.Alike.{Alike}
 
 module _ (T : Setting) (h : Laid → ℕ → Shape) (disks : Disks) (is_started : ℕ → Bool) (pass_from : ℕ → Option ℕ) (is_spare : ℕ → Bool) (content : ℕ → ℕ → Sector) (unsure : ℕ → ℕ → Bool) (asks : List Ask)
     (sectors : (d : ℕ) → disks.sectors d ≡ T.start.disks.sectors d)
     (pba : (h T.start.newest 0).pba ≡ (the_shape T).pba)
-    (places : (s : ℕ) → place_of (h T.start.newest 0) s ≡ place_of (the_shape T) s) where
+    (places : (s : ℕ) → placement_of (h T.start.newest 0) s ≡ placement_of (the_shape T) s) where
   -- the other setting
   abbrev pub S : Setting
   S = record {
@@ -43,7 +43,7 @@ module _ (T : Setting) (h : Laid → ℕ → Shape) (disks : Disks) (is_started 
 
   -- PLACES AND LOCKS
 
-  place_same : (i : ℕ) → place_at S i ≡ place_at T i
+  place_same : (i : ℕ) → placement_at S i ≡ placement_at T i
   place_same i = places (sector_in (kind_at T.asked.ops i))
 
   row_same : (i : ℕ) → row_at S i ≡ row_at T i

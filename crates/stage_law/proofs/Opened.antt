@@ -3,7 +3,7 @@ use Rattle.std.proofs.Common.{◌≡◌, ℕ, Bool, false, if◌then◌else◌, 
 use Rattle.units.specs.declared.disk.Sector.{Sector}
 use Rattle.units.specs.declared.volume.Level.TheVariants.{One}
 use Rattle.array_model.specs.Script.{Asked}
-use Rattle.array_model.specs.Placement.{Shape, place_by, place_of}
+use Rattle.array_model.specs.Placement.{Shape, placement_by, placement_of}
 use Rattle.array_model.specs.Start.{disks_of}
 use Rattle.stage_machine.specs.Setting.{Setting}
 use Rattle.stage_machine.specs.Machine.{World, Reached, Honest}
@@ -21,14 +21,14 @@ use Rattle.stage_law.proofs.Agreement.{alike}
 abbrev pub mirror_shape : Opened → Shape
 mirror_shape o = record { level = Some One; members = 2; size = (shape_on o).size; strip = 0; pba = (shape_on o).pba; rows = (shape_on o).size }
 
-same_place : (k : Shape) → k.level ≡ Some One → (s : ℕ) → (if nat_lt s k.size then Some (record { main = 0; other = 1; row = s }) else None) ≡ place_of k s
-same_place k one s = sym (ap (λ l. place_by l k s) one)
+same_place : (k : Shape) → k.level ≡ Some One → (s : ℕ) → (if nat_lt s k.size then Some (record { main = 0; other = 1; row = s }) else None) ≡ placement_of k s
+same_place k one s = sym (ap (λ l. placement_by l k s) one)
 
 module _ (o : Opened) (asked : Asked) (content : ℕ → ℕ → Sector) (unsure : ℕ → ℕ → Bool) (opens : IsOpening o) where
   abbrev pub T : Setting
   T = setting_of o asked content unsure
 
-  places : (s : ℕ) → place_of (mirror_shape o) s ≡ place_of (the_shape T) s
+  places : (s : ℕ) → placement_of (mirror_shape o) s ≡ placement_of (the_shape T) s
   places s = same_place (shape_on o) (first-volume o asked content unsure opens).level s
 
   -- a stage takes the same turns as the machine over the disks

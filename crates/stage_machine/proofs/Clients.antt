@@ -10,12 +10,12 @@ use Rattle.device_log.specs.Log.{Call}
 use Rattle.array_model.specs.declared.script.Op.{Op}
 use Rattle.array_model.specs.declared.journal.Event.{Event}
 use Rattle.array_model.specs.Script.{is_of_client, kind_at}
-use Rattle.array_model.specs.Placement.{Place, place_by}
+use Rattle.array_model.specs.Placement.{Placement, placement_by}
 use Rattle.units.specs.declared.volume.Level.TheVariants.{One}
 use Rattle.array_model.specs.declared.script.OpKind.{OpKind}
 use Rattle.array_model.specs.declared.script.OpKind.TheVariants.{Write as OpWrite, Read as OpRead, Whole as OpWhole}
-use Rattle.stage_machine.specs.Setting.{Setting, has}
-use Rattle.stage_machine.specs.Jobs.{JobStep, Waiting, Writing, Syncing, Written, Got, Job, NoJob, Busy, Client, no_client, client_at, ops_of, place_at, row_at, row_in, sector_in, the_shape, Need, NoNeed, Reads, Writes, Syncs, Answers, need_of, first_need, read_need, write_need, sync_need, after_write, after_sync}
+use Rattle.stage_machine.specs.Setting.{Setting, has_disk}
+use Rattle.stage_machine.specs.Jobs.{JobStep, Waiting, Writing, Syncing, Written, Got, Job, NoJob, Busy, Client, no_client, client_at, ops_of, placement_at, row_at, row_in, sector_in, the_shape, Need, NoNeed, Reads, Writes, Syncs, Answers, need_of, first_need, read_need, write_need, sync_need, after_write, after_sync}
 use Rattle.stage_machine.specs.Machine.{Control, need_now, need_unless, is_held, World, Reached, opens, goes, clients_of, got_of, stamped}
 use Rattle.stage_machine.proofs.Turns.{Turns, Has, turns_of, nothing, fails, anchors, settles, ends, begins, readies, actives, cleans, rests, pasts, asks_read, asks_write, puts, syncs, gets, acks}
 use Rattle.stage_machine.specs.Opens.{IsInFirst}
@@ -58,10 +58,10 @@ is_some_list (x ∷ xs) = true
 
 -- a client with an operation left, or with a job, is one of the list
 pub there_left : (c : Control) (k i : ℕ) (rest : List ℕ) (job : Job) → Has c k (i ∷ rest) job → k < length c.clients
-there_left c k i rest job has = there c.clients k _ has (λ e. absurd (let is : true ≡ false = ap (λ (x : Client). is_some_list x.left) e in cc is))
+there_left c k i rest job has_disk = there c.clients k _ has_disk (λ e. absurd (let is : true ≡ false = ap (λ (x : Client). is_some_list x.left) e in cc is))
 
 pub there_busy : (c : Control) (k i : ℕ) (left : List ℕ) (step : JobStep) → Has c k left (Busy i step) → k < length c.clients
-there_busy c k i left step has = there c.clients k _ has (λ e. absurd (let is : true ≡ false = ap (λ (x : Client). is_busy x.job) e in cc is))
+there_busy c k i left step has_disk = there c.clients k _ has_disk (λ e. absurd (let is : true ≡ false = ap (λ (x : Client). is_busy x.job) e in cc is))
 
 -- EACH CLIENT
 
@@ -98,7 +98,7 @@ at_start S k = elim (cases_lt k 16) [
 -- WHOSE OPERATIONS THEY ARE
 
 abbrev pub AllIn : List ℕ → List ℕ → Type 0
-AllIn ms ds = AllByRecursion (λ d. has d ms ≡ true) ds
+AllIn ms ds = AllByRecursion (λ d. has_disk d ms ≡ true) ds
 
 -- the members that are left are members of the volume
 abbrev pub StepIn : List ℕ → JobStep → Type 0
@@ -111,8 +111,8 @@ StepIn ms (Got value) = ⊤
 -- an operation of the client, at a place of the volume
 pub record IsJob (S : Setting) (k i : ℕ) (step : JobStep) : Type 0 where
   pub mine : is_of_client S.asked.ops k i ≡ true
-  pub place : Place
-  pub placed : place_at S i ≡ Some place
+  pub place : Placement
+  pub placed : placement_at S i ≡ Some place
   pub inside : StepIn S.members step
 
 abbrev pub IsJobOf : Setting → ℕ → Job → Type 0
@@ -130,15 +130,15 @@ Mine S c = Each (IsOf S) c.clients
 
 abbrev pub NeedIn : List ℕ → Need → Type 0
 NeedIn ms NoNeed = ⊤
-NeedIn ms (Reads d) = has d ms ≡ true
-NeedIn ms (Writes d ds) = (has d ms ≡ true) × AllIn ms ds
-NeedIn ms (Syncs d ds) = (has d ms ≡ true) × AllIn ms ds
+NeedIn ms (Reads d) = has_disk d ms ≡ true
+NeedIn ms (Writes d ds) = (has_disk d ms ≡ true) × AllIn ms ds
+NeedIn ms (Syncs d ds) = (has_disk d ms ≡ true) × AllIn ms ds
 NeedIn ms (Answers answer) = ⊤
 
-has_more : (d x : ℕ) (xs : List ℕ) → has d xs ≡ true → has d (x ∷ xs) ≡ true
+has_more : (d x : ℕ) (xs : List ℕ) → has_disk d xs ≡ true → has_disk d (x ∷ xs) ≡ true
 has_more d x xs h = at (x == d)
   where
-    at : (b : Bool) → (b || has d xs) ≡ true
+    at : (b : Bool) → (b || has_disk d xs) ≡ true
     at true = refl
     at false = h
 
@@ -191,9 +191,9 @@ after_sync_in S [] h = tt
 after_sync_in S (d ∷ ds) h = h
 
 -- a row of the volume
-pub row_below : (S : Setting) → (the_shape S).level ≡ Some One → (i : ℕ) (place : Place) → place_at S i ≡ Some place → row_at S i < (the_shape S).size
+pub row_below : (S : Setting) → (the_shape S).level ≡ Some One → (i : ℕ) (place : Placement) → placement_at S i ≡ Some place → row_at S i < (the_shape S).size
 row_below S one i place is =
-    let by_level : place_by (Some One) (the_shape S) (sector_in (kind_at S.asked.ops i)) ≡ Some place = ap (λ l. place_by l (the_shape S) (sector_in (kind_at S.asked.ops i))) (sym one) ∙ is in
+    let by_level : placement_by (Some One) (the_shape S) (sector_in (kind_at S.asked.ops i)) ≡ Some place = ap (λ l. placement_by l (the_shape S) (sector_in (kind_at S.asked.ops i))) (sym one) ∙ is in
     at (nat_lt (sector_in (kind_at S.asked.ops i)) (the_shape S).size) refl by_level
   where
     at : (b : Bool) → nat_lt (sector_in (kind_at S.asked.ops i)) (the_shape S).size ≡ b
@@ -213,18 +213,18 @@ filter_passes test (x ∷ xs) = at (test x) refl (filter_passes test xs)
     at false is more = more
 
 pub of_left : (S : Setting) (c : Control) (k i : ℕ) (rest : List ℕ) (job : Job) → Mine S c → Has c k (i ∷ rest) job → is_of_client S.asked.ops k i ≡ true
-of_left S c k i rest job mine has = (subst (IsOf S k) has (mine k)).left.0
+of_left S c k i rest job mine has_disk = (subst (IsOf S k) has_disk (mine k)).left.0
 
 pub of_job : (S : Setting) (c : Control) (k i : ℕ) (left : List ℕ) (step : JobStep) → Mine S c → Has c k left (Busy i step) → IsJob S k i step
-of_job S c k i left step mine has = (subst (IsOf S k) has (mine k)).job
+of_job S c k i left step mine has_disk = (subst (IsOf S k) has_disk (mine k)).job
 
 taken : (S : Setting) (c : Control) (k i : ℕ) (rest : List ℕ) (job : Job) → Mine S c → Has c k (i ∷ rest) NoJob → IsJobOf S k job → Each (IsOf S) (slice_set c.clients k (record { left = rest; job = job }))
-taken S c k i rest job mine has is =
-    each_set (IsOf S) c.clients k _ (there_left c k i rest NoJob has) mine (record { left = (subst (IsOf S k) has (mine k)).left.1; job = is })
+taken S c k i rest job mine has_disk is =
+    each_set (IsOf S) c.clients k _ (there_left c k i rest NoJob has_disk) mine (record { left = (subst (IsOf S k) has_disk (mine k)).left.1; job = is })
 
 gone_on : (S : Setting) (c : Control) (k i : ℕ) (left : List ℕ) (step : JobStep) (job : Job) → Mine S c → Has c k left (Busy i step) → IsJobOf S k job → Each (IsOf S) (slice_set c.clients k (record { left = left; job = job }))
-gone_on S c k i left step job mine has is =
-    each_set (IsOf S) c.clients k _ (there_busy c k i left step has) mine (record { left = (subst (IsOf S k) has (mine k)).left; job = is })
+gone_on S c k i left step job mine has_disk is =
+    each_set (IsOf S) c.clients k _ (there_busy c k i left step has_disk) mine (record { left = (subst (IsOf S k) has_disk (mine k)).left; job = is })
 
 goes_to : (S : Setting) (k i : ℕ) (step next : JobStep) → IsJob S k i step → StepIn S.members next → IsJob S k i next
 goes_to S k i step next job inside = record { mine = job.mine; place = job.place; placed = job.placed; inside = inside }
@@ -240,15 +240,15 @@ mine_turns S c got (readies is s t) mine = mine
 mine_turns S c got (actives is s t r) mine = mine
 mine_turns S c got (cleans is s t) mine = mine
 mine_turns S c got (rests t calm) mine = mine
-mine_turns S c got (pasts k i rest has none) mine = taken S c k i rest NoJob mine has tt
-mine_turns S c got (asks_read k i rest place has is w live) mine = taken S c k i rest _ mine has (record { mine = of_left S c k i rest NoJob mine has; place = place; placed = is; inside = tt })
-mine_turns S c got (asks_write k i rest place has is w live) mine = taken S c k i rest _ mine has (record { mine = of_left S c k i rest NoJob mine has; place = place; placed = is; inside = tt })
-mine_turns S c got (puts k i left step d ds has need) mine = let job = of_job S c k i left step mine has in
-    gone_on S c k i left step _ mine has (goes_to S k i step _ job (after_write_in S ds (subst (NeedIn S.members) need (need_in S c k i step job.inside)).1))
-mine_turns S c got (syncs k i left step d ds has need) mine = let job = of_job S c k i left step mine has in
-    gone_on S c k i left step _ mine has (goes_to S k i step _ job (after_sync_in S ds (subst (NeedIn S.members) need (need_in S c k i step job.inside)).1))
-mine_turns S c got (gets k i left step d has need) mine = gone_on S c k i left step _ mine has (goes_to S k i step _ (of_job S c k i left step mine has) tt)
-mine_turns S c got (acks k i left step answer has need) mine = gone_on S c k i left step NoJob mine has tt
+mine_turns S c got (pasts k i rest has_disk none) mine = taken S c k i rest NoJob mine has_disk tt
+mine_turns S c got (asks_read k i rest place has_disk is w live) mine = taken S c k i rest _ mine has_disk (record { mine = of_left S c k i rest NoJob mine has_disk; place = place; placed = is; inside = tt })
+mine_turns S c got (asks_write k i rest place has_disk is w live) mine = taken S c k i rest _ mine has_disk (record { mine = of_left S c k i rest NoJob mine has_disk; place = place; placed = is; inside = tt })
+mine_turns S c got (puts k i left step d ds has_disk need) mine = let job = of_job S c k i left step mine has_disk in
+    gone_on S c k i left step _ mine has_disk (goes_to S k i step _ job (after_write_in S ds (subst (NeedIn S.members) need (need_in S c k i step job.inside)).1))
+mine_turns S c got (syncs k i left step d ds has_disk need) mine = let job = of_job S c k i left step mine has_disk in
+    gone_on S c k i left step _ mine has_disk (goes_to S k i step _ job (after_sync_in S ds (subst (NeedIn S.members) need (need_in S c k i step job.inside)).1))
+mine_turns S c got (gets k i left step d has_disk need) mine = gone_on S c k i left step _ mine has_disk (goes_to S k i step _ (of_job S c k i left step mine has_disk) tt)
+mine_turns S c got (acks k i left step answer has_disk need) mine = gone_on S c k i left step NoJob mine has_disk tt
 
 pub mine_reached : (S : Setting) (w : World) → Reached S w → Mine S w.control
 mine_reached S w opens = λ k. elim (at_start S k) [

@@ -12,7 +12,7 @@ use Rattle.array_model.specs.Candidates.{writes}
 use Rattle.array_model.specs.Rounds.{IsFinished, IsFinishedBy, IsRound, ended}
 use Rattle.array_model.proofs.Journals.{all-append, all_map}
 use Rattle.array_model.specs.Renewal.{FitsGeneration, SaysSame}
-use Rattle.stage_machine.specs.Setting.{Setting, Renews, has}
+use Rattle.stage_machine.specs.Setting.{Setting, Renews, has_disk}
 use Rattle.stage_machine.specs.Opens.{StandsOnAll, IsFirstVolume}
 use Rattle.stage_machine.specs.Rounds.{AtAnchor, Phase, Rest, Going}
 use Rattle.stage_machine.specs.Jobs.{JobStep, Busy, Reads, Writes, the_shape, row_at, value_at}
@@ -28,9 +28,9 @@ use Rattle.stage_machine.proofs.Marks.{AllMarks, Marks, marks_row, marks_anchor,
 
 -- the anchor of a good block, a row of a member, or a sync
 pub data Fine (S : Setting) (d : ℕ) : What → Type 0 where
-  fine_anchor : (m : Laid) (stored : ℕ) → has d S.targets ≡ true → Good S m → Fine S d (Write (anchor_place (S.start.disks.sectors d)) (m.anchor ∷ []) stored)
+  fine_anchor : (m : Laid) (stored : ℕ) → has_disk d S.targets ≡ true → Good S m → Fine S d (Write (anchor_place (S.start.disks.sectors d)) (m.anchor ∷ []) stored)
   fine_write : (place stored : ℕ) (s : Sector) → IsRow (S.start.disks.sectors d) place → Fine S d (Write place (s ∷ []) stored)
-  fine_read : (row : ℕ) → row < (the_shape S).size → has d S.members ≡ true → Fine S d (Read ((the_shape S).pba + row))
+  fine_read : (row : ℕ) → row < (the_shape S).size → has_disk d S.members ≡ true → Fine S d (Read ((the_shape S).pba + row))
   fine_sync : Fine S d Sync
 
 abbrev pub IsFine : Setting → Call → Type 0
@@ -52,33 +52,33 @@ left_turns S c got (readies is s t) good h = h
 left_turns S c got (actives is s t r) good h = h
 left_turns S c got (cleans is s t) good h = h
 left_turns S c got (rests t calm) good h = h
-left_turns S c got (pasts k i rest has none) good h = h
-left_turns S c got (asks_read k i rest place has is w live) good h = h
-left_turns S c got (asks_write k i rest place has is w live) good h = h
-left_turns S c got (puts k i left step d ds has need) good h = h
-left_turns S c got (syncs k i left step d ds has need) good h = h
-left_turns S c got (gets k i left step d has need) good h = h
-left_turns S c got (acks k i left step answer has need) good h = h
+left_turns S c got (pasts k i rest has_disk none) good h = h
+left_turns S c got (asks_read k i rest place has_disk is w live) good h = h
+left_turns S c got (asks_write k i rest place has_disk is w live) good h = h
+left_turns S c got (puts k i left step d ds has_disk need) good h = h
+left_turns S c got (syncs k i left step d ds has_disk need) good h = h
+left_turns S c got (gets k i left step d has_disk need) good h = h
+left_turns S c got (acks k i left step answer has_disk need) good h = h
 
 module _ (S : Setting) (volume : IsFirstVolume S) (c : Control) (mine : Mine S c) (good : GoodRound S c.round) (left : LeftIn S c.round.phase) where
   fine_put : (k i : ℕ) (more : List ℕ) (step : JobStep) (d : ℕ) (ds : List ℕ) (stored : ℕ) → Has c k more (Busy i step) → need_now S c k i step ≡ Writes d ds
       → Fine S d (Write ((the_shape S).pba + row_at S i) (value_at S i ∷ []) stored)
-  fine_put k i more step d ds stored has need =
-      let job = of_job S c k i more step mine has in
+  fine_put k i more step d ds stored has_disk need =
+      let job = of_job S c k i more step mine has_disk in
       let member = (subst (NeedIn S.members) need (need_in S c k i step job.inside)).0 in
-      fine_write _ stored _ (row_inside S volume c k i more step d mine has member)
+      fine_write _ stored _ (row_inside S volume c k i more step d mine has_disk member)
 
   fine_get : (k i : ℕ) (more : List ℕ) (step : JobStep) (d : ℕ) → Has c k more (Busy i step) → need_now S c k i step ≡ Reads d → Fine S d (Read ((the_shape S).pba + row_at S i))
-  fine_get k i more step d has need =
-      let job = of_job S c k i more step mine has in
+  fine_get k i more step d has_disk need =
+      let job = of_job S c k i more step mine has_disk in
       fine_read (row_at S i) (row_below S volume.level i job.place job.placed) (subst (NeedIn S.members) need (need_in S c k i step job.inside))
 
   fine_asked : (d : ℕ) (what : What) → AsksFor S c d what → Fine S d what
   fine_asked _ _ (anchor m d ds stored is) = fine_anchor m stored (subst (LeftIn S) is left).0 (going_good S c.round m AtAnchor (d ∷ ds) good is)
   fine_asked _ _ (settle m d ds is) = fine_sync
-  fine_asked _ _ (put k i more step d ds stored has need) = fine_put k i more step d ds stored has need
-  fine_asked _ _ (sync k i more step d ds has need) = fine_sync
-  fine_asked _ _ (get k i more step d has need) = fine_get k i more step d has need
+  fine_asked _ _ (put k i more step d ds stored has_disk need) = fine_put k i more step d ds stored has_disk need
+  fine_asked _ _ (sync k i more step d ds has_disk need) = fine_sync
+  fine_asked _ _ (get k i more step d has_disk need) = fine_get k i more step d has_disk need
 
   fine_turns : (log : List Call) (got : Sector) {call : Option Call} {es : List Event} {next : Control} → Turns S c got call es next → AllByRecursion (IsFine S) log → AllByRecursion (IsFine S) (log_after log call)
   fine_turns log got nothing h = h
@@ -91,13 +91,13 @@ module _ (S : Setting) (volume : IsFirstVolume S) (c : Control) (mine : Mine S c
   fine_turns log got (actives is s t r) h = h
   fine_turns log got (cleans is s t) h = h
   fine_turns log got (rests t calm) h = h
-  fine_turns log got (pasts k i rest has none) h = h
-  fine_turns log got (asks_read k i rest place has is w live) h = h
-  fine_turns log got (asks_write k i rest place has is w live) h = h
-  fine_turns log got (puts k i more step d ds has need) h = all-append (IsFine S) log _ h (fine_put k i more step d ds 1 has need, tt)
-  fine_turns log got (syncs k i more step d ds has need) h = all-append (IsFine S) log _ h (fine_sync, tt)
-  fine_turns log got (gets k i more step d has need) h = all-append (IsFine S) log _ h (fine_get k i more step d has need, tt)
-  fine_turns log got (acks k i more step answer has need) h = h
+  fine_turns log got (pasts k i rest has_disk none) h = h
+  fine_turns log got (asks_read k i rest place has_disk is w live) h = h
+  fine_turns log got (asks_write k i rest place has_disk is w live) h = h
+  fine_turns log got (puts k i more step d ds has_disk need) h = all-append (IsFine S) log _ h (fine_put k i more step d ds 1 has_disk need, tt)
+  fine_turns log got (syncs k i more step d ds has_disk need) h = all-append (IsFine S) log _ h (fine_sync, tt)
+  fine_turns log got (gets k i more step d has_disk need) h = all-append (IsFine S) log _ h (fine_get k i more step d has_disk need, tt)
+  fine_turns log got (acks k i more step answer has_disk need) h = h
 
 pub left_reached : (S : Setting) → Renews S → StandsOnAll S → (w : World) → FitsGeneration w.control.round.note → Reached S w → LeftIn S w.control.round.phase
 left_reached S renews on w fits opens = tt

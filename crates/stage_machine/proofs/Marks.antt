@@ -10,7 +10,7 @@ use Rattle.array_model.specs.Blocks.{Laid}
 use Rattle.array_model.specs.Candidates.{Disk, In, is_among, standing, disk_at, disk_called, disk_from, writes}
 use Rattle.array_model.proofs.Journals.{all_map}
 use Rattle.array_model.proofs.Written.{counted_known, in_all}
-use Rattle.stage_machine.specs.Setting.{Setting, has}
+use Rattle.stage_machine.specs.Setting.{Setting, has_disk}
 use Rattle.stage_machine.specs.Opens.{IsFirstVolume}
 use Rattle.stage_machine.proofs.Blocks.{noted_row, noted_anchor}
 use Rattle.stage_machine.proofs.Stands.{Good, RowCall, row_write, row_read, row_sync}
@@ -21,7 +21,7 @@ blank = record { cells = λ p. resting (record { 0 = [] }); pend = []; known = [
 -- a call at a row, or the anchor of a block of which Q holds
 pub data Marks (S : Setting) (Q : Laid → Type 0) (d : ℕ) : What → Type 0 where
   marks_row : (what : What) → RowCall S d what → Marks S Q d what
-  marks_anchor : (m : Laid) (stored : ℕ) → has d S.targets ≡ true → Good S m → Q m → Marks S Q d (Write (anchor_place (S.start.disks.sectors d)) (m.anchor ∷ []) stored)
+  marks_anchor : (m : Laid) (stored : ℕ) → has_disk d S.targets ≡ true → Good S m → Q m → Marks S Q d (Write (anchor_place (S.start.disks.sectors d)) (m.anchor ∷ []) stored)
 
 abbrev pub AllMarks : Setting → (Laid → Type 0) → List Call → Type 0
 AllMarks S Q log = AllByRecursion (λ call. Marks S Q call.disk call.what) log
@@ -39,7 +39,7 @@ all_marks_drop S Q (suc n) [] h = tt
 all_marks_drop S Q (suc n) (x ∷ log) h = all_marks_drop S Q n log h.1
 
 -- a target has room for the metadata
-pub metadata_fits : (S : Setting) → IsFirstVolume S → (d : ℕ) → has d S.targets ≡ true → METADATA_SECTORS ≤ S.start.disks.sectors d
+pub metadata_fits : (S : Setting) → IsFirstVolume S → (d : ℕ) → has_disk d S.targets ≡ true → METADATA_SECTORS ≤ S.start.disks.sectors d
 metadata_fits S volume d target = let room = volume.room d target in omega (arith, room)
 
 module _ (S : Setting) (volume : IsFirstVolume S) where

@@ -11,7 +11,7 @@ use Rattle.device_log.specs.Cells.{Cell, brought}
 use Rattle.array_model.specs.Blocks.{Laid, Words}
 use Rattle.array_model.specs.Candidates.{Disk, In, is_among, standing, counted, disk_at}
 use Rattle.array_model.specs.Renewal.{FitsGeneration, SaysSame, IsRenewable, IsRenewed}
-use Rattle.stage_machine.specs.Setting.{Setting, Renews, has}
+use Rattle.stage_machine.specs.Setting.{Setting, Renews, has_disk}
 use Rattle.stage_machine.specs.Opens.{StandsOnAll}
 use Rattle.stage_machine.specs.States.{next_dirty}
 use Rattle.stage_machine.specs.Rounds.{Step, AtAnchor, AtSync, Phase, Rest, Going, Round}
@@ -21,7 +21,7 @@ use Rattle.stage_machine.proofs.Blocks.{in_among, IsAlone, standing_is, IsRow, n
 use Rattle.device_log.proofs.Cells.{synced_stood}
 use Rattle.array_model.proofs.Written.{counted_known}
 
-has_first : (d : ℕ) (ds : List ℕ) → has d (d ∷ ds) ≡ true
+has_first : (d : ℕ) (ds : List ℕ) → has_disk d (d ∷ ds) ≡ true
 has_first d ds = let here : (d == d) ≡ true = grind (arith, nat_tests) in rw here refl
 
 -- GOOD BLOCKS: of one sector, with the members of the newest at opening, and whole on each target
@@ -29,7 +29,7 @@ has_first d ds = let here : (d == d) ≡ true = grind (arith, nat_tests) in rw h
 pub record Good (S : Setting) (m : Laid) : Type 0 where
   pub alone : IsAlone S.start.words m
   pub same : SaysSame S.start.words m S.start.newest
-  pub whole : (d : ℕ) → has d S.targets ≡ true → S.start.words.is_whole (S.start.disks.serial d) (S.start.disks.sectors d) m ≡ true
+  pub whole : (d : ℕ) → has_disk d S.targets ≡ true → S.start.words.is_whole (S.start.disks.serial d) (S.start.disks.sectors d) m ≡ true
 
 abbrev pub GoodPhase : Setting → Phase → Type 0
 GoodPhase S Rest = ⊤
@@ -45,7 +45,7 @@ pub going_good : (S : Setting) (r : Round) (m : Laid) (step : Step) (left : List
 going_good S r m step left good is = subst (GoodPhase S) is good.phase
 
 -- it may be renewed, where there is a target
-good_renewable : (S : Setting) → StandsOnAll S → (m : Laid) (d : ℕ) → has d S.targets ≡ true → Good S m → IsRenewable S.start.words m
+good_renewable : (S : Setting) → StandsOnAll S → (m : Laid) (d : ℕ) → has_disk d S.targets ≡ true → Good S m → IsRenewable S.start.words m
 good_renewable S on m d target good = record {
   alone = good.alone.extra;
   short = good.alone.short;
@@ -72,7 +72,7 @@ good_renewed S m n g y it good = record {
 pub renewed : (S : Setting) → Renews S → StandsOnAll S → (r : Round) (d : ℕ) (ds : List ℕ) (y : Bool) → r.working ≡ d ∷ ds → FitsGeneration (r.note + 1) → GoodRound S r
     → IsRenewed S.start.words r.book (r.note + 1) y (S.renew r.book (r.note + 1) y)
 renewed S renews on r d ds y some fits good =
-    renews r.book (r.note + 1) y (good_renewable S on r.book d (subst (λ ts. has d ts ≡ true) (sym some ∙ good.working) (has_first d ds)) good.book) fits
+    renews r.book (r.note + 1) y (good_renewable S on r.book d (subst (λ ts. has_disk d ts ≡ true) (sym some ∙ good.working) (has_first d ds)) good.book) fits
 
 good_turns : (S : Setting) → Renews S → StandsOnAll S → (c : Control) (got : Sector) {call : Option Call} {es : _} {next : Control} → Turns S c got call es next → FitsGeneration next.round.note → GoodRound S c.round → GoodRound S next.round
 good_turns S renews on c got nothing fits good = good
@@ -87,13 +87,13 @@ good_turns S renews on c got (readies is s t) fits good = good
 good_turns S renews on c got (actives is s t r) fits good = good
 good_turns S renews on c got (cleans is s t) fits good = good
 good_turns S renews on c got (rests t calm) fits good = good
-good_turns S renews on c got (pasts k i rest has none) fits good = good
-good_turns S renews on c got (asks_read k i rest place has is w live) fits good = good
-good_turns S renews on c got (asks_write k i rest place has is w live) fits good = good
-good_turns S renews on c got (puts k i left step d ds has need) fits good = good
-good_turns S renews on c got (syncs k i left step d ds has need) fits good = good
-good_turns S renews on c got (gets k i left step d has need) fits good = good
-good_turns S renews on c got (acks k i left step answer has need) fits good = good
+good_turns S renews on c got (pasts k i rest has_disk none) fits good = good
+good_turns S renews on c got (asks_read k i rest place has_disk is w live) fits good = good
+good_turns S renews on c got (asks_write k i rest place has_disk is w live) fits good = good
+good_turns S renews on c got (puts k i left step d ds has_disk need) fits good = good
+good_turns S renews on c got (syncs k i left step d ds has_disk need) fits good = good
+good_turns S renews on c got (gets k i left step d has_disk need) fits good = good
+good_turns S renews on c got (acks k i left step answer has_disk need) fits good = good
 
 good_newest : (S : Setting) → StandsOnAll S → Good S S.start.newest
 good_newest S on = record {
@@ -115,13 +115,13 @@ note_rises S c got (readies is s t) = omega arith
 note_rises S c got (actives is s t r) = omega arith
 note_rises S c got (cleans is s t) = omega arith
 note_rises S c got (rests t calm) = omega arith
-note_rises S c got (pasts k i rest has none) = omega arith
-note_rises S c got (asks_read k i rest place has is w live) = omega arith
-note_rises S c got (asks_write k i rest place has is w live) = omega arith
-note_rises S c got (puts k i left step d ds has need) = omega arith
-note_rises S c got (syncs k i left step d ds has need) = omega arith
-note_rises S c got (gets k i left step d has need) = omega arith
-note_rises S c got (acks k i left step answer has need) = omega arith
+note_rises S c got (pasts k i rest has_disk none) = omega arith
+note_rises S c got (asks_read k i rest place has_disk is w live) = omega arith
+note_rises S c got (asks_write k i rest place has_disk is w live) = omega arith
+note_rises S c got (puts k i left step d ds has_disk need) = omega arith
+note_rises S c got (syncs k i left step d ds has_disk need) = omega arith
+note_rises S c got (gets k i left step d has_disk need) = omega arith
+note_rises S c got (acks k i left step answer has_disk need) = omega arith
 
 pub fitted : (S : Setting) (w : World) (a : Action) → FitsGeneration (happens S w a).control.round.note → FitsGeneration w.control.round.note
 fitted S w a fits = let rises = note_rises S w.control (got_of a) (turns_of S w.control a) in omega (arith, fits, rises)

@@ -10,7 +10,7 @@ use Rattle.array_model.specs.declared.journal.Event.{Event}
 use Rattle.array_model.specs.Blocks.{Laid}
 use Rattle.array_model.specs.Candidates.{Disk, standing, standing_from, disk_after, opened, opened_with}
 use Rattle.array_model.specs.Renewal.{FitsGeneration}
-use Rattle.stage_machine.specs.Setting.{Setting, Renews, has}
+use Rattle.stage_machine.specs.Setting.{Setting, Renews, has_disk}
 use Rattle.stage_machine.specs.Opens.{SaysAll, StandsOnAll, IsFirstVolume}
 use Rattle.stage_machine.specs.Rounds.{Step, AtAnchor, AtSync, Phase, Rest, Going, Round}
 use Rattle.stage_machine.specs.Jobs.{JobStep, Busy, Writes, the_shape, row_at, value_at}
@@ -28,7 +28,7 @@ IsFirst d (e ∷ es) = e ≡ d
 -- a target in a round: it has the round's block alone once it isn't among those left
 pub record Under (S : Setting) (last m : Laid) (d : ℕ) (k : Disk) (left : List ℕ) : Type 0 where
   pub mixed : Mixed S d last m k
-  pub done : has d left ≡ false → Settled S d m k
+  pub done : has_disk d left ≡ false → Settled S d m k
 
 abbrev pub GoingIn : Setting → Laid → Laid → ℕ → Disk → List ℕ → Step → Type 0
 GoingIn S last m d k left AtAnchor = Under S last m d k left
@@ -51,7 +51,7 @@ pub record Held (S : Setting) (last : Laid) (d : ℕ) (k : Disk) (phase : Phase)
 
 -- each target does
 abbrev pub Stand : Setting → List Call → Round → Type 0
-Stand S log r = (d : ℕ) → has d S.targets ≡ true → Held S r.last d (disk S log d) r.phase
+Stand S log r = (d : ℕ) → has_disk d S.targets ≡ true → Held S r.last d (disk S log d) r.phase
 
 says_itself : (S : Setting) (m : Laid) → SaysAll S.start.words m m
 says_itself S m = record {
@@ -95,10 +95,10 @@ lift S P Q log e d what went p here other = at (e == d) refl
 
 -- CALLS AT ROWS
 
-pub row_inside : (S : Setting) → IsFirstVolume S → (c : Control) (k i : ℕ) (left : List ℕ) (step : JobStep) (d : ℕ) → Mine S c → Has c k left (Busy i step) → has d S.members ≡ true
+pub row_inside : (S : Setting) → IsFirstVolume S → (c : Control) (k i : ℕ) (left : List ℕ) (step : JobStep) (d : ℕ) → Mine S c → Has c k left (Busy i step) → has_disk d S.members ≡ true
     → IsRow (S.start.disks.sectors d) ((the_shape S).pba + row_at S i)
-row_inside S volume c k i left step d mine has member =
-    let job = of_job S c k i left step mine has in
+row_inside S volume c k i left step d mine has_disk member =
+    let job = of_job S c k i left step mine has_disk in
     let below = row_below S volume.level i job.place job.placed in
     let room = volume.room d (volume.members d member).target in
     omega (arith, below, room, volume.rows)
@@ -129,18 +129,18 @@ module _ (S : Setting) (volume : IsFirstVolume S) (log : List Call) (c : Control
 
   stand_put : (k i : ℕ) (left : List ℕ) (step : JobStep) (e : ℕ) (ds : List ℕ) (stored : ℕ) (went : Bool) → Has c k left (Busy i step) → need_now S c k i step ≡ Writes e ds
       → Stand S (log ++ call e (Write ((the_shape S).pba + row_at S i) (value_at S i ∷ []) stored) went ∷ []) c.round
-  stand_put k i left step e ds stored went has need =
-      let job = of_job S c k i left step mine has in
+  stand_put k i left step e ds stored went has_disk need =
+      let job = of_job S c k i left step mine has_disk in
       let member = (subst (NeedIn S.members) need (need_in S c k i step job.inside)).0 in
-      stand_row e _ went (row_write _ stored _ (row_inside S volume c k i left step e mine has member))
+      stand_row e _ went (row_write _ stored _ (row_inside S volume c k i left step e mine has_disk member))
 
   -- what a target holds while a round is going on
-  held_going : (m : Laid) (step : Step) (left : List ℕ) → c.round.phase ≡ Going m step left → (d : ℕ) → has d S.targets ≡ true → Held S c.round.last d (disk S log d) (Going m step left)
+  held_going : (m : Laid) (step : Step) (left : List ℕ) → c.round.phase ≡ Going m step left → (d : ℕ) → has_disk d S.targets ≡ true → Held S c.round.last d (disk S log d) (Going m step left)
   held_going m step left is d target = subst (Held S c.round.last d (disk S log d)) is (stand d target)
 
   -- an anchor is written, gone through or not
   stand_anchor : (m : Laid) (e : ℕ) (ds : List ℕ) (stored : ℕ) (went : Bool) → c.round.phase ≡ Going m AtAnchor (e ∷ ds)
-      → (d : ℕ) → has d S.targets ≡ true
+      → (d : ℕ) → has_disk d S.targets ≡ true
       → Held S c.round.last d (disk S (log ++ call e (Write (anchor_place (S.start.disks.sectors e)) (m.anchor ∷ []) stored) went ∷ []) d) (Going m AtAnchor (e ∷ ds))
   stand_anchor m e ds stored went is d target = held_by S c.round.last d (disk S log d) _ (Going m AtAnchor (e ∷ ds)) (Going m AtAnchor (e ∷ ds)) held (
       lift S (λ k. Under S held.block m d k (e ∷ ds)) (λ k. Under S held.block m d k (e ∷ ds)) log e d _ went held.stands
@@ -153,11 +153,11 @@ module _ (S : Setting) (volume : IsFirstVolume S) (log : List Call) (c : Control
       held : Held S c.round.last d (disk S log d) (Going m AtAnchor (e ∷ ds))
       held = held_going m AtAnchor (e ∷ ds) is d target
 
-      first_in : (e d : ℕ) (ds : List ℕ) → e ≡ d → has d (e ∷ ds) ≡ false → ⊥
-      first_in e d ds here out = let is : (e == d) ≡ true = grind (arith, nat_tests, here) in absurd (let yes_in : has d (e ∷ ds) ≡ true = rw is refl in cc (yes_in, out))
+      first_in : (e d : ℕ) (ds : List ℕ) → e ≡ d → has_disk d (e ∷ ds) ≡ false → ⊥
+      first_in e d ds here out = let is : (e == d) ≡ true = grind (arith, nat_tests, here) in absurd (let yes_in : has_disk d (e ∷ ds) ≡ true = rw is refl in cc (yes_in, out))
 
   stand_anchored : (m : Laid) (e : ℕ) (ds : List ℕ) → c.round.phase ≡ Going m AtAnchor (e ∷ ds)
-      → (d : ℕ) → has d S.targets ≡ true → IsFirst d (e ∷ ds)
+      → (d : ℕ) → has_disk d S.targets ≡ true → IsFirst d (e ∷ ds)
       → StandsAs S d m (disk S (log ++ call e (Write (anchor_place (S.start.disks.sectors e)) (m.anchor ∷ []) 1) true ∷ []) d)
   stand_anchored m e ds is d target first =
       lift S (λ k. ⊤) (λ k. StandsAs S d m k) log e d _ true tt
@@ -166,7 +166,7 @@ module _ (S : Setting) (volume : IsFirstVolume S) (log : List Call) (c : Control
 
   -- the sync of the first target that is left
   stand_synced : (m : Laid) (e : ℕ) (ds : List ℕ) → c.round.phase ≡ Going m AtSync (e ∷ ds)
-      → (d : ℕ) → has d S.targets ≡ true → Held S c.round.last d (disk S (log ++ call e Sync true ∷ []) d) (Going m AtAnchor ds)
+      → (d : ℕ) → has_disk d S.targets ≡ true → Held S c.round.last d (disk S (log ++ call e Sync true ∷ []) d) (Going m AtAnchor ds)
   stand_synced m e ds is d target =
       let it = going_good S c.round m AtSync (e ∷ ds) good is in
       let held = held_going m AtSync (e ∷ ds) is d target in
@@ -178,9 +178,9 @@ module _ (S : Setting) (volume : IsFirstVolume S) (log : List Call) (c : Control
   stand_fails : (e : ℕ) (what : What) → AsksFor S c e what → Stand S (log ++ call e what false ∷ []) c.round
   stand_fails _ _ (anchor m d ds stored is) = λ x target. subst (Held S c.round.last x _) (sym is) (stand_anchor m d ds stored false is x target)
   stand_fails _ _ (settle m d ds is) = stand_row d Sync false row_sync
-  stand_fails _ _ (put k i left step d ds stored has need) = stand_put k i left step d ds stored false has need
-  stand_fails _ _ (sync k i left step d ds has need) = stand_row d Sync false row_sync
-  stand_fails _ _ (get k i left step d has need) = stand_row d _ false (row_read _)
+  stand_fails _ _ (put k i left step d ds stored has_disk need) = stand_put k i left step d ds stored false has_disk need
+  stand_fails _ _ (sync k i left step d ds has_disk need) = stand_row d Sync false row_sync
+  stand_fails _ _ (get k i left step d has_disk need) = stand_row d _ false (row_read _)
 
   -- each turn
   pub stand_turns : (got : Sector) {call : Option Call} {es : List Event} {next : Control} → Turns S c got call es next → Stand S (log_after log call) next.round
@@ -194,25 +194,25 @@ module _ (S : Setting) (volume : IsFirstVolume S) (log : List Call) (c : Control
       held_alone S m x _ (alone_of m AtSync (d ∷ []) is) ((stand_synced m d [] is x target).stands.done refl)
   stand_turns got (begins d ds is some why) = λ x target.
       let held = subst (Held S c.round.last x (disk S log x)) is (stand x target) in
-      let inside : has x (d ∷ ds) ≡ true = subst (λ z. has x z ≡ true) some (subst (λ z. has x z ≡ true) (sym good.working) target) in
+      let inside : has_disk x (d ∷ ds) ≡ true = subst (λ z. has_disk x z ≡ true) some (subst (λ z. has_disk x z ≡ true) (sym good.working) target) in
       held_by S c.round.last x (disk S log x) (disk S log x) Rest (Going _ AtAnchor (d ∷ ds)) held (record { mixed = mixed_last S x held.block _ (disk S log x) held.stands; done = λ out. absurd (cc (inside, out)) })
   stand_turns got (readies is s t) = stand
   stand_turns got (actives is s t r) = stand
   stand_turns got (cleans is s t) = stand
   stand_turns got (rests t calm) = stand
-  stand_turns got (pasts k i rest has none) = stand
-  stand_turns got (asks_read k i rest place has is w live) = stand
-  stand_turns got (asks_write k i rest place has is w live) = stand
-  stand_turns got (puts k i left step d ds has need) = stand_put k i left step d ds 1 true has need
-  stand_turns got (syncs k i left step d ds has need) = stand_row d Sync true row_sync
-  stand_turns got (gets k i left step d has need) = stand_row d _ true (row_read _)
-  stand_turns got (acks k i left step answer has need) = stand
+  stand_turns got (pasts k i rest has_disk none) = stand
+  stand_turns got (asks_read k i rest place has_disk is w live) = stand
+  stand_turns got (asks_write k i rest place has_disk is w live) = stand
+  stand_turns got (puts k i left step d ds has_disk need) = stand_put k i left step d ds 1 true has_disk need
+  stand_turns got (syncs k i left step d ds has_disk need) = stand_row d Sync true row_sync
+  stand_turns got (gets k i left step d has_disk need) = stand_row d _ true (row_read _)
+  stand_turns got (acks k i left step answer has_disk need) = stand
 
 -- what stood on a disk at opening
 abbrev first_block : Setting → ℕ → Laid
 first_block S d = standing S.start.words (S.start.disks.sectors d) (λ p. resting (S.start.disks.opening d p))
 
-first_alone : (S : Setting) → StandsOnAll S → (d : ℕ) → has d S.targets ≡ true → IsAlone S.start.words (first_block S d)
+first_alone : (S : Setting) → StandsOnAll S → (d : ℕ) → has_disk d S.targets ≡ true → IsAlone S.start.words (first_block S d)
 first_alone S on d target =
     let none = (on.stands d target).extra ∙ on.alone in
     record {
@@ -220,7 +220,7 @@ first_alone S on d target =
       short = ap (λ n. standing_from (λ p. resting (S.start.disks.opening d p)) (anchor_place (S.start.disks.sectors d) - n) n) none;
     }
 
-opened_held : (S : Setting) → StandsOnAll S → (d : ℕ) → has d S.targets ≡ true → Held S S.start.newest d (opened S.start.words S.start.disks d) Rest
+opened_held : (S : Setting) → StandsOnAll S → (d : ℕ) → has_disk d S.targets ≡ true → Held S S.start.newest d (opened S.start.words S.start.disks d) Rest
 opened_held S on d target = record {
   block = first_block S d;
   says = on.stands d target;

@@ -10,12 +10,12 @@ use Rattle.array_model.specs.declared.journal.Event.TheVariants.{Begin, End, Rea
 use Rattle.array_model.specs.declared.journal.Answer.{Answer}
 use Rattle.array_model.specs.declared.journal.Answer.TheVariants.{Past}
 use Rattle.array_model.specs.Script.{kind_at}
-use Rattle.array_model.specs.Placement.{Place}
+use Rattle.array_model.specs.Placement.{Placement}
 use Rattle.array_model.specs.Blocks.{Laid}
 use Rattle.stage_machine.specs.Setting.{Setting}
 use Rattle.stage_machine.specs.Rounds.{Step, AtAnchor, AtSync, Phase, Rest, Going, Ended, round_call, begin_with}
 use Rattle.stage_machine.specs.States.{State, IsReadonly, IsReadAuto, IsClean, IsPending, IsActive, IsIdle, is_readonly, the_volume, asked_state, asked_events, is_due, next_dirty, starts_if, decide}
-use Rattle.stage_machine.specs.Jobs.{JobStep, Waiting, Got, Job, NoJob, Busy, client_at, the_shape, place_at, row_at, value_at, is_write, any_writing, Need, NoNeed, Reads, Writes, Syncs, Answers, after_write, after_sync, need_call}
+use Rattle.stage_machine.specs.Jobs.{JobStep, Waiting, Got, Job, NoJob, Busy, client_at, the_shape, placement_at, row_at, value_at, is_write, any_writing, Need, NoNeed, Reads, Writes, Syncs, Answers, after_write, after_sync, need_call}
 use Rattle.stage_machine.specs.Machine.{Control, Out, put_round, moved, monitor_at, put_client, submit_write, submit_read, submit_kind, submit_unless, submit_next, meet, need_now, client_by, job_call, quiet_if, quieted, Action, Monitors, Asks, Quiets, turn, turned, turned_unless, turn_call, call_of, call_unless, got_of}
 
 -- the client has these operations left, and this job
@@ -50,7 +50,7 @@ pub record IsRowTaken (S : Setting) (c : Control) (i : ℕ) : Type 0 where
 -- the same, of a sector that isn't one of the volume
 pub record IsPast (S : Setting) (c : Control) (i : ℕ) : Type 0 where
   pub taken : IsRowTaken S c i
-  pub none : place_at S i ≡ None
+  pub none : placement_at S i ≡ None
 
 -- a turn: its call, its entries, and the control state that it leaves
 pub data Turns (S : Setting) (c : Control) (got : Sector) : Option Call → List Event → Control → Type 0 where
@@ -72,9 +72,9 @@ pub data Turns (S : Setting) (c : Control) (got : Sector) : Option Call → List
   cleans : c.round.phase ≡ Rest → c.round.started ≡ true → c.state ≡ IsIdle → Turns S c got None (Clean the_volume ∷ []) (record c { state = IsClean })
   rests : c.state ≡ IsActive → any_writing S c.clients ≡ false → Turns S c got None (Idle the_volume ∷ []) (record c { state = IsIdle })
   pasts : (k i : ℕ) (rest : List ℕ) → Has c k (i ∷ rest) NoJob → IsPast S c i → Turns S c got None (Submit i ∷ Ack i Past ∷ []) (put_client c k rest NoJob)
-  asks_read : (k i : ℕ) (rest : List ℕ) (place : Place) → Has c k (i ∷ rest) NoJob → place_at S i ≡ Some place → is_write S i ≡ false → IsRowTaken S c i
+  asks_read : (k i : ℕ) (rest : List ℕ) (place : Placement) → Has c k (i ∷ rest) NoJob → placement_at S i ≡ Some place → is_write S i ≡ false → IsRowTaken S c i
       → Turns S c got None (Submit i ∷ []) (put_client c k rest (Busy i Waiting))
-  asks_write : (k i : ℕ) (rest : List ℕ) (place : Place) → Has c k (i ∷ rest) NoJob → place_at S i ≡ Some place → is_write S i ≡ true → is_readonly c.state ≡ false
+  asks_write : (k i : ℕ) (rest : List ℕ) (place : Placement) → Has c k (i ∷ rest) NoJob → placement_at S i ≡ Some place → is_write S i ≡ true → is_readonly c.state ≡ false
       → Turns S c got None (Submit i ∷ asked_events c.state) (record (put_client c k rest (Busy i Waiting)) { state = asked_state c.state })
   puts : (k i : ℕ) (left : List ℕ) (step : JobStep) (d : ℕ) (ds : List ℕ) → Has c k left (Busy i step) → need_now S c k i step ≡ Writes d ds
       → Turns S c got (went d (Write ((the_shape S).pba + row_at S i) (value_at S i ∷ []) 1)) [] (put_client c k left (Busy i (after_write S ds)))
@@ -129,18 +129,18 @@ submit_turns : (S : Setting) (c : Control) (got : Sector) (k : ℕ) (left : List
 submit_turns S c got k [] has = nothing
 submit_turns S c got k (i ∷ rest) has = at (is_readonly c.state) refl
   where
-    write : is_row_kind (kind_at S.asked.ops i) ≡ true → is_write S i ≡ true → is_readonly c.state ≡ false → (place : Option Place) → place_at S i ≡ place → TurnsOut S c got None (submit_write c k i rest place)
+    write : is_row_kind (kind_at S.asked.ops i) ≡ true → is_write S i ≡ true → is_readonly c.state ≡ false → (place : Option Placement) → placement_at S i ≡ place → TurnsOut S c got None (submit_write c k i rest place)
     write row w live None is = pasts k i rest has (record { taken = record { row = row; ready = live }; none = is })
     write row w live (Some place) is = asks_write k i rest place has is w live
 
-    read : is_row_kind (kind_at S.asked.ops i) ≡ true → is_write S i ≡ false → is_readonly c.state ≡ false → (place : Option Place) → place_at S i ≡ place → TurnsOut S c got None (submit_read c k i rest place)
+    read : is_row_kind (kind_at S.asked.ops i) ≡ true → is_write S i ≡ false → is_readonly c.state ≡ false → (place : Option Placement) → placement_at S i ≡ place → TurnsOut S c got None (submit_read c k i rest place)
     read row w live None is = pasts k i rest has (record { taken = record { row = row; ready = live }; none = is })
     read row w live (Some place) is = asks_read k i rest place has is w (record { row = row; ready = live })
 
     kind : is_readonly c.state ≡ false → (kind : Option OpKind) → kind_at S.asked.ops i ≡ kind → TurnsOut S c got None (submit_kind S c k i rest kind)
     kind live None is = nothing
-    kind live (Some (OpWrite v s value)) is = write (rw is refl) (rw is refl) live (place_at S i) refl
-    kind live (Some (OpRead v s)) is = read (rw is refl) (rw is refl) live (place_at S i) refl
+    kind live (Some (OpWrite v s value)) is = write (rw is refl) (rw is refl) live (placement_at S i) refl
+    kind live (Some (OpRead v s)) is = read (rw is refl) (rw is refl) live (placement_at S i) refl
     kind live (Some (OpWhole v)) is = nothing
 
     at : (b : Bool) → is_readonly c.state ≡ b → TurnsOut S c got None (submit_unless S c k i rest b)

@@ -10,7 +10,7 @@ use Rattle.array_model.specs.declared.script.OpKind.TheVariants.{Write as OpWrit
 use Rattle.array_model.specs.declared.journal.Answer.{Answer}
 use Rattle.array_model.specs.declared.journal.Answer.TheVariants.{Done, Value}
 use Rattle.array_model.specs.Script.{kind_at, is_of_client, sector_of}
-use Rattle.array_model.specs.Placement.{Shape, Place, place_of}
+use Rattle.array_model.specs.Placement.{Shape, Placement, placement_of}
 use Rattle.stage_machine.specs.Setting.{Setting}
 use Rattle.stage_machine.specs.Rounds.{Ended, stored_of}
 
@@ -52,16 +52,16 @@ sector_in (Some (OpWrite v s value)) = s
 sector_in (Some (OpRead v s)) = s
 sector_in (Some (OpWhole v)) = 0
 
-abbrev pub place_at : Setting → ℕ → Option Place
-place_at S i = place_of (the_shape S) (sector_in (kind_at S.asked.ops i))
+abbrev pub placement_at : Setting → ℕ → Option Placement
+placement_at S i = placement_of (the_shape S) (sector_in (kind_at S.asked.ops i))
 
-abbrev pub row_in : Option Place → ℕ
+abbrev pub row_in : Option Placement → ℕ
 row_in None = 0
 row_in (Some place) = place.row
 
 -- the row that op i reads or writes
 abbrev pub row_at : Setting → ℕ → ℕ
-row_at S i = row_in (place_at S i)
+row_at S i = row_in (placement_at S i)
 
 abbrev pub value_in : Option OpKind → Sector
 value_in None = sector_of 0

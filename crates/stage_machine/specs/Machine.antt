@@ -11,12 +11,12 @@ use Rattle.array_model.specs.declared.journal.Event.{Event}
 use Rattle.array_model.specs.declared.journal.Event.TheVariants.{Submit, Ack, Idle}
 use Rattle.array_model.specs.declared.journal.Answer.TheVariants.{Past}
 use Rattle.array_model.specs.Script.{kind_at, sector_of}
-use Rattle.array_model.specs.Placement.{Place}
+use Rattle.array_model.specs.Placement.{Placement}
 use Rattle.array_model.specs.Candidates.{disk_after}
 use Rattle.stage_machine.specs.Setting.{Setting}
 use Rattle.stage_machine.specs.Rounds.{Round, Rounded, Phase, Rest, Going, Ended, round_call, step_on, begin}
 use Rattle.stage_machine.specs.States.{State, IsReadonly, IsReadAuto, IsClean, IsPending, IsActive, IsIdle, is_readonly, is_pending_state, the_volume, asked_state, asked_events, next_dirty, Move, Nothing, Starts, Makes, decide}
-use Rattle.stage_machine.specs.Jobs.{JobStep, Waiting, Got, Job, NoJob, Busy, Client, client_at, ops_of, place_at, row_at, is_write, is_locked, any_writing, Need, NoNeed, Reads, Writes, Syncs, Answers, need_of, after_write, after_sync, need_call}
+use Rattle.stage_machine.specs.Jobs.{JobStep, Waiting, Got, Job, NoJob, Busy, Client, client_at, ops_of, placement_at, row_at, is_write, is_locked, any_writing, Need, NoNeed, Reads, Writes, Syncs, Answers, need_of, after_write, after_sync, need_call}
 
 -- the round, the state of the volume, the clients, and the disk whose call failed
 pub record Control : Type 0 where
@@ -66,21 +66,21 @@ put_client c k left job = record c { clients = slice_set c.clients k (record { l
 abbrev pub past : Control → ℕ → ℕ → List ℕ → Out
 past c k i rest = record { next = put_client c k rest NoJob; events = Submit i ∷ Ack i Past ∷ [] }
 
-abbrev pub submit_write : Control → ℕ → ℕ → List ℕ → Option Place → Out
+abbrev pub submit_write : Control → ℕ → ℕ → List ℕ → Option Placement → Out
 submit_write c k i rest None = past c k i rest
 submit_write c k i rest (Some place) = record {
   next = record (put_client c k rest (Busy i Waiting)) { state = asked_state c.state };
   events = Submit i ∷ asked_events c.state;
 }
 
-abbrev pub submit_read : Control → ℕ → ℕ → List ℕ → Option Place → Out
+abbrev pub submit_read : Control → ℕ → ℕ → List ℕ → Option Placement → Out
 submit_read c k i rest None = past c k i rest
 submit_read c k i rest (Some place) = record { next = put_client c k rest (Busy i Waiting); events = Submit i ∷ [] }
 
 abbrev pub submit_kind : Setting → Control → ℕ → ℕ → List ℕ → Option OpKind → Out
 submit_kind S c k i rest None = idle c
-submit_kind S c k i rest (Some (OpWrite v s value)) = submit_write c k i rest (place_at S i)
-submit_kind S c k i rest (Some (OpRead v s)) = submit_read c k i rest (place_at S i)
+submit_kind S c k i rest (Some (OpWrite v s value)) = submit_write c k i rest (placement_at S i)
+submit_kind S c k i rest (Some (OpRead v s)) = submit_read c k i rest (placement_at S i)
 submit_kind S c k i rest (Some (OpWhole v)) = idle c
 
 abbrev pub submit_unless : Setting → Control → ℕ → ℕ → List ℕ → Bool → Out

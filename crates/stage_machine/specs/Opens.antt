@@ -11,7 +11,7 @@ use Rattle.array_model.specs.Blocks.{Laid, Words, is_container}
 use Rattle.array_model.specs.Candidates.{standing}
 use Rattle.array_model.specs.FailureLaw.{HasInSlot}
 use Rattle.array_model.specs.Renewal.{SaysSame}
-use Rattle.stage_machine.specs.Setting.{Setting, has}
+use Rattle.stage_machine.specs.Setting.{Setting, has_disk}
 use Rattle.stage_machine.specs.Jobs.{the_shape}
 
 -- it reads or writes volume 0
@@ -40,16 +40,16 @@ pub record StandsOnAll (S : Setting) : Type 0 where
   pub container : is_container S.start.words S.start.newest ≡ true
   pub alone : S.start.words.extra S.start.newest.anchor ≡ 0
   pub short : S.start.newest.extended ≡ []
-  pub expected : (d : ℕ) → S.start.words.expects S.start.newest (S.start.disks.serial d) ≡ has d S.targets
-  pub stands : (d : ℕ) → has d S.targets ≡ true
+  pub expected : (d : ℕ) → S.start.words.expects S.start.newest (S.start.disks.serial d) ≡ has_disk d S.targets
+  pub stands : (d : ℕ) → has_disk d S.targets ≡ true
       → SaysAll S.start.words (standing S.start.words (S.start.disks.sectors d)
       (λ p. resting (S.start.disks.opening d p))) S.start.newest
-  pub whole : (d : ℕ) → has d S.targets ≡ true
+  pub whole : (d : ℕ) → has_disk d S.targets ≡ true
       → S.start.words.is_whole (S.start.disks.serial d) (S.start.disks.sectors d) S.start.newest ≡ true
 
 -- a slot of the volume, in sync in the newest block
 pub record IsMember (S : Setting) (d : ℕ) : Type 0 where
-  pub target : has d S.targets ≡ true
+  pub target : has_disk d S.targets ≡ true
   pub slot : ℕ
   pub member : HasInSlot S.start S.start.newest 0 slot d
   pub in_sync : member.words.is_in_sync ≡ true
@@ -61,9 +61,9 @@ pub record IsFirstVolume (S : Setting) : Type 0 where
   pub two : length (S.start.words.slots S.start.newest 0) ≡ 2
   pub rows : (the_shape S).size ≤ (the_shape S).rows
   pub started : S.start.is_started 0 ≡ true
-  pub members : (d : ℕ) → has d S.members ≡ true → IsMember S d
-  pub each_slot : (slot d : ℕ) → HasInSlot S.start S.start.newest 0 slot d → has d S.members ≡ true
-  pub room : (d : ℕ) → has d S.targets ≡ true
+  pub members : (d : ℕ) → has_disk d S.members ≡ true → IsMember S d
+  pub each_slot : (slot d : ℕ) → HasInSlot S.start S.start.newest 0 slot d → has_disk d S.members ≡ true
+  pub room : (d : ℕ) → has_disk d S.targets ≡ true
       → (the_shape S).pba + (the_shape S).rows + METADATA_SECTORS ≤ S.start.disks.sectors d
 
 -- no other volume is started
@@ -73,5 +73,5 @@ StartsFirstAlone S = (v : ℕ) → S.start.is_started v ≡ true → v ≡ 0
 -- each member holds the content of each sector that isn't unsure
 abbrev pub HoldsContent : Setting → Type 0
 HoldsContent S =
-    (s d : ℕ) → s < (the_shape S).size → S.start.unsure 0 s ≡ false → has d S.members ≡ true
+    (s d : ℕ) → s < (the_shape S).size → S.start.unsure 0 s ≡ false → has_disk d S.members ≡ true
     → S.start.disks.opening d ((the_shape S).pba + s) ≡ S.start.content 0 s

@@ -14,9 +14,9 @@ pub record Setting : Type 0 where
   pub members : List ℕ
   pub renew : Laid → ℕ → Bool → Laid
 
-abbrev pub has : ℕ → List ℕ → Bool
-has d [] = false
-has d (e ∷ es) = (e == d) || has d es
+abbrev pub has_disk : ℕ → List ℕ → Bool
+has_disk d [] = false
+has_disk d (e ∷ es) = (e == d) || has_disk d es
 
 -- on each block that a round may be edited from, and each generation that fits, the edit is that of a round
 abbrev pub Renews : Setting → Type 0

@@ -2,7 +2,7 @@ use Rattle.std.proofs.Common.{rules, ◌≡◌, ℕ, zero, suc, true, false, Lis
 use Rattle.units.specs.declared.disk.Sector.{Sector}
 use Rattle.array_model.specs.declared.journal.Entry.{Entry}
 use Rattle.array_model.specs.declared.journal.Event.TheVariants.{Begin, End}
-use Rattle.array_model.specs.Script.{Target, write_at, sector_of}
+use Rattle.array_model.specs.Script.{VolumeWrite, write_at, sector_of}
 use Rattle.array_model.specs.Candidates.{In, writes}
 use Rattle.array_model.specs.Blocks.{Laid}
 use Rattle.array_model.specs.Causes.{GoesOn, Over}
@@ -40,7 +40,7 @@ pub returns-clause-unended : goal.returns-clause-unended
 returns-clause-unended c log ended limit calls admitted = admitted.form.causes.1.1.1.1.1.1.1.1.1.1.1.1.0.0
 
 -- the data of a write of the script has 512 bytes
-data_is : (i : ℕ) (target : Target) → write_at write_and_read i ≡ Some target → sector_of the_value ≡ target.value
+data_is : (i : ℕ) (target : VolumeWrite) → write_at write_and_read i ≡ Some target → sector_of the_value ≡ target.value
 data_is zero target h = cc h
 data_is (suc zero) target h = absurd (let none : None ≡ Some target = h in cc none)
 data_is (suc (suc i)) target h = absurd (let none : None ≡ Some target = h in cc none)

@@ -6,7 +6,7 @@ use Rattle.std.proofs.lemmas.Bool.{cases_lt}
 use Rattle.units.specs.declared.disk.Sector.{Sector}
 use Rattle.device_log.specs.Log.{Call, What, Read, Write, Sync}
 use Rattle.array_model.specs.declared.journal.Entry.{Entry}
-use Rattle.array_model.specs.Placement.{Place}
+use Rattle.array_model.specs.Placement.{Placement}
 use Rattle.array_model.specs.Script.{sector_of}
 use Rattle.array_model.specs.Causes.{GoesOn, course_of}
 use Rattle.array_model.specs.Events.{is_live, up_to}
@@ -17,7 +17,7 @@ use Rattle.array_model.proofs.examples.example_of_the_row_calls.Goals as goal
 
 -- THE ROW
 
-abbrev row_five : Place
+abbrev row_five : Placement
 row_five = record { main = 0; other = 1; row = 5 }
 
 first_row : IsRowOn small_start 0 5 0 5
@@ -36,7 +36,7 @@ row_disk d place row = elim row.slot [
 row_place : (d place : ℕ) → IsRowOn small_start 0 5 d place → place ≡ 5
 row_place d place row =
     let lies : row_five ≡ row.lies = cc row.placed in
-    let five : 5 ≡ row.lies.row = ap (λ (p : Place). p.row) lies in
+    let five : 5 ≡ row.lies.row = ap (λ (p : Placement). p.row) lies in
     let here : place ≡ 0 + row.lies.row = row.at_row in
     omega (arith, five, here)
 
