@@ -6,3 +6,4 @@ pub mod Books
 pub mod Rounded
 pub mod Submitted
 pub mod Stillness
+pub mod Passed

@@ -7,6 +7,7 @@ use Rattle.units.specs.declared.volume.Level.TheVariants.{One}
 use Rattle.array_model.specs.declared.script.Op.{Op}
 use Rattle.array_model.specs.declared.journal.Event.{Event}
 use Rattle.array_model.specs.declared.journal.Event.TheVariants.{Pending as Pended}
+use Rattle.array_model.specs.declared.journal.Answer.TheVariants.{Done as IsDone, Value as IsValue}
 use Rattle.array_model.specs.Script.{is_of_client}
 use Rattle.array_model.specs.Placement.{Shape}
 use Rattle.block_meaning.specs.Reading.{block_words}
@@ -23,7 +24,7 @@ use Rattle.control_state.specs.declared.job.JobStep.{JobStep}
 use Rattle.control_state.specs.declared.job.JobStep.TheVariants.{Waiting, Writing, Syncing, Written, Got}
 use Rattle.control_state.specs.declared.job.Work.{Work}
 use Rattle.control_state.specs.declared.job.Need.{Need}
-use Rattle.control_state.specs.declared.job.Need.TheVariants.{Nothing as NoNeed, Read, Write, Sync, Answer}
+use Rattle.control_state.specs.declared.job.Need.TheVariants.{Nothing as NoNeed, Read, Write, Sync, Done, Value}
 use Rattle.control_state.specs.declared.client.Client.{Client}
 
 -- THE PLAN
@@ -94,7 +95,8 @@ need_of members NoNeed = jobs.NoNeed
 need_of members (Read d) = jobs.Reads d.0
 need_of members (Write d rest) = jobs.Writes d.0 (drop rest members)
 need_of members (Sync d rest) = jobs.Syncs d.0 (drop rest members)
-need_of members (Answer answer) = jobs.Answers answer
+need_of members Done = jobs.Answers IsDone
+need_of members (Value value) = jobs.Answers (IsValue value.now)
 
 -- CLIENTS
 

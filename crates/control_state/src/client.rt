@@ -19,6 +19,7 @@ pub struct Client {
 pub fn next_op(ops: &[Op], client: u8, from: u64) -> Option<u64>
     ensures some { IfSome result (λ i. (i < length ops.now)
         × (left_from ops.now client from ≡ i ∷ left_from ops.now client (i + 1))) }
+    ensures here { IfSome result (λ i. left_from ops.now client i ≡ left_from ops.now client from) }
     ensures none { IfNone result (left_from ops.now client from ≡ []) }
 {
     for i in from as usize..ops.len() {
@@ -27,6 +28,16 @@ pub fn next_op(ops: &[Op], client: u8, from: u64) -> Option<u64>
         }
     }
     None
+}
+
+/// The place of a client's first operation from a place on, and the end of the operations where there is none.
+pub fn next_place(ops: &[Op], client: u8, from: u64) -> u64
+    ensures { left_from ops.now client result ≡ left_from ops.now client from }
+{
+    match next_op(ops, client, from) {
+        Some(op) => op,
+        None => ops.len() as u64,
+    }
 }
 
 /// Whether a client at a place other than one holds a row.

@@ -10,7 +10,7 @@ ghost use Rattle.control_state.specs.Seen.{numbers, plan_setting, state_of, move
 ghost use Rattle.control_state.specs.Rounds.{round_of, next_ask, gone};
 ghost use Rattle.control_state.specs.Controls.{control_of, out_of};
 
-use crate::client::{Client, has_write, is_locked};
+use crate::client::{Client, has_write, is_locked, next_place};
 use crate::job::{Need, Work};
 use crate::plan::Plan;
 use crate::round::{Phase, Round};
@@ -102,13 +102,25 @@ impl Control {
         self.clients[k as usize] = client;
     }
 
+    /// Passes over the operations of others that stand before a client's next one: its later turns don't look at them
+    /// again.
+    pub fn pass_over(&mut self, plan: &Plan, k: u8)
+        ensures { control_of plan.now self.new ≡ control_of plan.now self.old }
+    {
+        if k as usize >= CLIENTS {
+            return;
+        }
+        let Client { number, next, .. } = self.clients[k as usize];
+        self.clients[k as usize].next = next_place(&plan.ops, number, next);
+    }
+
     /// The job of a client.
-    pub fn work(&self, k: u8) -> Option<Work>
+    pub fn work(&self, k: u8) -> &Option<Work>
         requires { k < 16 }
-        ensures { (p : PlanSeen) → job_of (numbers p.members.items) result
+        ensures { (p : PlanSeen) → job_of (numbers p.members.items) result.now
             ≡ (client_at (control_of p self.now).clients k).job }
     {
-        self.clients[k as usize].work
+        &self.clients[k as usize].work
     }
 
     /// A client's job stands elsewhere, or is over.
@@ -118,15 +130,15 @@ impl Control {
             ≡ machine.put_client (control_of p self.old) k (client_at (control_of p self.old).clients k).left
             (job_of (numbers p.members.items) work) }
     {
-        let client = self.clients[k as usize];
-        self.put(k, Client { work, ..client });
+        let Client { number, next, .. } = self.clients[k as usize];
+        self.put(k, Client { number, next, work });
     }
 
     /// What a client's job needs now.
-    pub fn need(&self, plan: &Plan, k: u8, work: Work) -> Need
+    pub fn need<'a>(&self, plan: &Plan, k: u8, work: &'a Work) -> Need<'a>
         ensures { need_of (numbers plan.now.members.items) result
-            ≡ machine.need_now (plan_setting plan.now) (control_of plan.now self.now) k work.op
-            (step_of (numbers plan.now.members.items) work.step) }
+            ≡ machine.need_now (plan_setting plan.now) (control_of plan.now self.now) k work.now.op
+            (step_of (numbers plan.now.members.items) work.now.step) }
     {
         if (plan.is_write(work.op) && self.state == State::Pending)
             || is_locked(plan, &self.clients, plan.row(work.op), k)

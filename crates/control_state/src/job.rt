@@ -5,7 +5,7 @@ ghost use Rattle.stage_machine.specs.Jobs as machine;
 ghost use Rattle.control_state.specs.Seen.{numbers, plan_setting, job_of, step_of, need_of};
 
 use crate::plan::Plan;
-use array_model::{Answer, OpKind};
+use array_model::OpKind;
 use units::{DiskNo, Sector};
 
 /// Where a job stands: no call was made; the members from a place on are left to write, or to sync; all is done; a
@@ -26,14 +26,16 @@ pub struct Work {
     pub step: JobStep,
 }
 
-/// What a job needs next: a call on a disk, after which the members from a place on are left, or its answer.
-#[derive(Clone, Copy, Debug, PartialEq, Eq)]
-pub enum Need {
+/// What a job needs next: a call on a disk, after which the members from a place on are left, or its answer. A value
+/// that was read stays where it is.
+#[derive(Clone, Copy)]
+pub enum Need<'a> {
     Nothing,
     Read(DiskNo),
     Write(DiskNo, u8),
     Sync(DiskNo, u8),
-    Answer(Answer),
+    Done,
+    Value(&'a Sector),
 }
 
 fn member_at(members: &[DiskNo], at: u8) -> Option<DiskNo>
@@ -42,7 +44,7 @@ fn member_at(members: &[DiskNo], at: u8) -> Option<DiskNo>
     members.get(at as usize).copied()
 }
 
-fn read_need(members: &[DiskNo]) -> Need
+fn read_need(members: &[DiskNo]) -> Need<'static>
     ensures { need_of (numbers members.now) result ≡ machine.read_need (numbers members.now) }
 {
     match member_at(members, 0) {
@@ -51,7 +53,7 @@ fn read_need(members: &[DiskNo]) -> Need
     }
 }
 
-fn write_need(members: &[DiskNo], at: u8) -> Need
+fn write_need(members: &[DiskNo], at: u8) -> Need<'static>
     requires { length members.now ≤ 16 }
     ensures { need_of (numbers members.now) result ≡ machine.write_need (drop at (numbers members.now)) }
 {
@@ -61,7 +63,7 @@ fn write_need(members: &[DiskNo], at: u8) -> Need
     }
 }
 
-fn sync_need(members: &[DiskNo], at: u8) -> Need
+fn sync_need(members: &[DiskNo], at: u8) -> Need<'static>
     requires { length members.now ≤ 16 }
     ensures { need_of (numbers members.now) result ≡ machine.sync_need (drop at (numbers members.now)) }
 {
@@ -73,7 +75,7 @@ fn sync_need(members: &[DiskNo], at: u8) -> Need
 
 impl Plan {
     /// What the job of an operation needs where no call was made yet.
-    fn first_need(&self, op: u64) -> Need
+    fn first_need(&self, op: u64) -> Need<'static>
         ensures { need_of (numbers self.now.members.items) result
             ≡ machine.first_need (plan_setting self.now) (kind_at self.now.ops.items op) }
     {
@@ -86,17 +88,18 @@ impl Plan {
     }
 
     /// What a job needs where nothing holds it.
-    pub fn need(&self, work: Work) -> Need
+    pub fn need<'a>(&self, work: &'a Work) -> Need<'a>
         ensures { need_of (numbers self.now.members.items) result
-            ≡ machine.need_of (plan_setting self.now) work.op (step_of (numbers self.now.members.items) work.step) }
+            ≡ machine.need_of (plan_setting self.now) work.now.op
+            (step_of (numbers self.now.members.items) work.now.step) }
     {
         let members = self.members.as_slice();
-        match work.step {
+        match &work.step {
             JobStep::Waiting => self.first_need(work.op),
-            JobStep::Writing(at) => write_need(members, at),
-            JobStep::Syncing(at) => sync_need(members, at),
-            JobStep::Written => Need::Answer(Answer::Done),
-            JobStep::Got(value) => Need::Answer(Answer::Value(value)),
+            JobStep::Writing(at) => write_need(members, *at),
+            JobStep::Syncing(at) => sync_need(members, *at),
+            JobStep::Written => Need::Done,
+            JobStep::Got(value) => Need::Value(value),
         }
     }
 
@@ -131,7 +134,7 @@ impl Plan {
     {
         match work {
             None => false,
-            Some(work) => work.step != JobStep::Waiting && self.row(work.op) == row,
+            Some(work) => !matches!(work.step, JobStep::Waiting) && self.row(work.op) == row,
         }
     }
 

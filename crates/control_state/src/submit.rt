@@ -97,10 +97,10 @@ impl Control {
             ≡ machine.submit_next (plan_setting plan.now) (control_of plan.now self.old) k
             (client_at (control_of plan.now self.old).clients k).left }
     {
-        let client = self.clients[k as usize];
-        match next_op(&plan.ops, client.number, client.next) {
+        let Client { number, next, .. } = self.clients[k as usize];
+        match next_op(&plan.ops, number, next) {
             None => Events::Zero,
-            Some(op) => self.submit_op(plan, k, client.number, op),
+            Some(op) => self.submit_op(plan, k, number, op),
         }
     }
 }

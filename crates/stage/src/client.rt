@@ -13,6 +13,7 @@ ghost use Rattle.stage.specs.Runs.{run_setting, FitsBank, MakesTrue};
 ghost use Rattle.stage.specs.Causes.{Counts, Grows};
 
 use crate::calls::{read_row, write_row};
+use array_model::Answer;
 use control_state::{Control, Events, JobStep, Need, Plan, Work};
 use member_bank::{Bank, Failed};
 use units::DiskNo;
@@ -45,14 +46,14 @@ fn meet<B: Bank>(
     plan: &Plan,
     calls: &mut u64,
     k: u8,
-    work: Work,
+    work: &Work,
 ) -> Events
     requires client { k < 16 }
     requires live { control.old.failed ≡ None }
     requires calls { calls.old + 1 < 2 ^ 64 }
     requires fits { FitsBank plan.now (B.sizes bank.old) }
     requires job { (client_at (control_of plan.now control.old).clients k).job
-        ≡ Busy work.op (step_of (numbers plan.now.members.items) work.step) }
+        ≡ Busy work.now.op (step_of (numbers plan.now.members.items) work.now.step) }
     ensures made { (newest : Laid) → (x : Ended) × (got : SectorBytes)
         × MakesTrue (run_setting plan.now newest (B.sizes bank.old)) (B.log bank.old)
         (control_of plan.now control.old) calls.old (Asks k x got) (out_of plan.now control.new result) calls.new
@@ -65,7 +66,8 @@ fn meet<B: Bank>(
 {
     match control.need(plan, k, work) {
         Need::Nothing => Events::Zero,
-        Need::Answer(answer) => control.answer(k, work.op, answer),
+        Need::Done => control.answer(k, work.op, Answer::Done),
+        Need::Value(value) => control.answer(k, work.op, Answer::Value(*value)),
         Need::Read(disk) => {
             *calls += 1;
             match read_row(bank, plan, work.op, disk) {
@@ -113,8 +115,8 @@ pub fn client_part<B: Bank>(
     ensures grows { Grows (B.log bank.old) calls.old (B.log bank.new) calls.new }
     ensures cause { Counts (B.faults_of bank.old) (B.faults_of bank.new) (failed_of control.new.failed) }
 {
-    match control.work(k) {
+    match *control.work(k) {
         None => control.submit(plan, k),
-        Some(work) => meet(bank, control, plan, calls, k, work),
+        Some(work) => meet(bank, control, plan, calls, k, &work),
     }
 }

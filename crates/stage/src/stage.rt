@@ -166,8 +166,25 @@ impl<B: Bank> Stage<B> {
         answer(self.control.failed)
     }
 
+    /// Passes over the operations of others that stand before a client's next one.
+    fn pass_over(&mut self, k: u8)
+        ensures { self.new ≡ self.old }
+    {
+        self.control.pass_over(&self.plan, k);
+    }
+
     /// A client's turn.
     pub fn client_turn(&mut self, k: u8) -> Turned
+        ensures answered { (x : Ended) × (got : SectorBytes) × Answered self.old self.new (Asks k x got) result }
+        ensures opening { Keeps (B.opening self.old.bank) (B.opening self.new.bank) }
+        ensures bank { KeepsBank B.serials B.sizes B.log B.faults_of self.old self.new }
+    {
+        self.pass_over(k);
+        self.client_acts(k)
+    }
+
+    /// What a client does in its turn.
+    fn client_acts(&mut self, k: u8) -> Turned
         ensures answered { (x : Ended) × (got : SectorBytes) × Answered self.old self.new (Asks k x got) result }
         ensures opening { Keeps (B.opening self.old.bank) (B.opening self.new.bank) }
         ensures bank { KeepsBank B.serials B.sizes B.log B.faults_of self.old self.new }

@@ -3,6 +3,7 @@ use Rattle.std.specs.Prelude.{is_ok, if◌then◌else◌}
 use Rattle.device_log.specs.Log.{Read, Write, Sync}
 use Rattle.member_bank.specs.Told.{Logs, Gives}
 use Rattle.array_model.specs.Script.{sector_of}
+use Rattle.array_model.specs.declared.journal.Answer.TheVariants.{Done, Value}
 use Rattle.stage_machine.specs.Jobs as jobs
 use Rattle.stage_machine.specs.Jobs.{client_at, row_at, value_at, Busy, NoNeed, Reads, Writes, Syncs, Answers}
 use Rattle.stage_machine.specs.Machine.{put_client}
@@ -14,37 +15,37 @@ use Rattle.stage.proofs.Asking.{needed_has, row_below, met_none, met_some}
 use Rattle.stage.proofs.client.meet.Goals as goal
 
 pub read_row-requires-clause-disk : goal.read_row-requires-clause-disk
-read_row-requires-clause-disk g c = (c.requires.fits.members_there c.in-Read.disk.0 (needed_has c.args.plan.now (control_of c.args.plan.now c.args.control.now) c.args.k c.args.work.op c.in-Read.disk.0 c.args.work.step (Reads c.in-Read.disk.0) (sym (ap (need_of (numbers c.args.plan.now.members.items)) c.in-Read.is) ∙ c.need.ensures) refl)).0
+read_row-requires-clause-disk g c = (c.requires.fits.members_there c.in-Read.disk.0 (needed_has c.args.plan.now (control_of c.args.plan.now c.args.control.now) c.args.k c.args.work.now.op c.in-Read.disk.0 c.args.work.now.step (Reads c.in-Read.disk.0) (sym (ap (need_of (numbers c.args.plan.now.members.items)) c.in-Read.is) ∙ c.need.ensures) refl)).0
 
 pub read_row-requires-clause-room : goal.read_row-requires-clause-room
 read_row-requires-clause-room g c =
-    let row = row_below c.args.plan.now c.args.work.op c.requires.fits.some in
-    let room = (c.requires.fits.members_there c.in-Read.disk.0 (needed_has c.args.plan.now (control_of c.args.plan.now c.args.control.now) c.args.k c.args.work.op c.in-Read.disk.0 c.args.work.step (Reads c.in-Read.disk.0) (sym (ap (need_of (numbers c.args.plan.now.members.items)) c.in-Read.is) ∙ c.need.ensures) refl)).1 in
+    let row = row_below c.args.plan.now c.args.work.now.op c.requires.fits.some in
+    let room = (c.requires.fits.members_there c.in-Read.disk.0 (needed_has c.args.plan.now (control_of c.args.plan.now c.args.control.now) c.args.k c.args.work.now.op c.in-Read.disk.0 c.args.work.now.step (Reads c.in-Read.disk.0) (sym (ap (need_of (numbers c.args.plan.now.members.items)) c.in-Read.is) ∙ c.need.ensures) refl)).1 in
     omega (arith, row, room)
 
 pub read_row-requires-clause-fits : goal.read_row-requires-clause-fits
 read_row-requires-clause-fits g c =
-    let row = row_below c.args.plan.now c.args.work.op c.requires.fits.some in
+    let row = row_below c.args.plan.now c.args.work.now.op c.requires.fits.some in
     let below = c.requires.fits.below in
     omega (arith, row, below)
 
 pub write_row-requires-clause-disk : goal.write_row-requires-clause-disk
-write_row-requires-clause-disk g c = (c.requires.fits.members_there c.in-Write.disk.0 (needed_has c.args.plan.now (control_of c.args.plan.now c.args.control.now) c.args.k c.args.work.op c.in-Write.disk.0 c.args.work.step (Writes c.in-Write.disk.0 (drop c.in-Write.rest (numbers c.args.plan.now.members.items))) (sym (ap (need_of (numbers c.args.plan.now.members.items)) c.in-Write.is) ∙ c.need.ensures) refl)).0
+write_row-requires-clause-disk g c = (c.requires.fits.members_there c.in-Write.disk.0 (needed_has c.args.plan.now (control_of c.args.plan.now c.args.control.now) c.args.k c.args.work.now.op c.in-Write.disk.0 c.args.work.now.step (Writes c.in-Write.disk.0 (drop c.in-Write.rest (numbers c.args.plan.now.members.items))) (sym (ap (need_of (numbers c.args.plan.now.members.items)) c.in-Write.is) ∙ c.need.ensures) refl)).0
 
 pub write_row-requires-clause-room : goal.write_row-requires-clause-room
 write_row-requires-clause-room g c =
-    let row = row_below c.args.plan.now c.args.work.op c.requires.fits.some in
-    let room = (c.requires.fits.members_there c.in-Write.disk.0 (needed_has c.args.plan.now (control_of c.args.plan.now c.args.control.now) c.args.k c.args.work.op c.in-Write.disk.0 c.args.work.step (Writes c.in-Write.disk.0 (drop c.in-Write.rest (numbers c.args.plan.now.members.items))) (sym (ap (need_of (numbers c.args.plan.now.members.items)) c.in-Write.is) ∙ c.need.ensures) refl)).1 in
+    let row = row_below c.args.plan.now c.args.work.now.op c.requires.fits.some in
+    let room = (c.requires.fits.members_there c.in-Write.disk.0 (needed_has c.args.plan.now (control_of c.args.plan.now c.args.control.now) c.args.k c.args.work.now.op c.in-Write.disk.0 c.args.work.now.step (Writes c.in-Write.disk.0 (drop c.in-Write.rest (numbers c.args.plan.now.members.items))) (sym (ap (need_of (numbers c.args.plan.now.members.items)) c.in-Write.is) ∙ c.need.ensures) refl)).1 in
     omega (arith, row, room)
 
 pub write_row-requires-clause-fits : goal.write_row-requires-clause-fits
 write_row-requires-clause-fits g c =
-    let row = row_below c.args.plan.now c.args.work.op c.requires.fits.some in
+    let row = row_below c.args.plan.now c.args.work.now.op c.requires.fits.some in
     let below = c.requires.fits.below in
     omega (arith, row, below)
 
 pub sync-requires : goal.sync-requires
-sync-requires g c = (c.requires.fits.members_there c.in-Sync.disk.0 (needed_has c.args.plan.now (control_of c.args.plan.now c.args.control.now) c.args.k c.args.work.op c.in-Sync.disk.0 c.args.work.step (Syncs c.in-Sync.disk.0 (drop c.in-Sync.rest (numbers c.args.plan.now.members.items))) (sym (ap (need_of (numbers c.args.plan.now.members.items)) c.in-Sync.is) ∙ c.need.ensures) refl)).0
+sync-requires g c = (c.requires.fits.members_there c.in-Sync.disk.0 (needed_has c.args.plan.now (control_of c.args.plan.now c.args.control.now) c.args.k c.args.work.now.op c.in-Sync.disk.0 c.args.work.now.step (Syncs c.in-Sync.disk.0 (drop c.in-Sync.rest (numbers c.args.plan.now.members.items))) (sym (ap (need_of (numbers c.args.plan.now.members.items)) c.in-Sync.is) ∙ c.need.ensures) refl)).0
 
 pub returns-in-Nothing-clause-made : goal.returns-in-Nothing-clause-made
 returns-in-Nothing-clause-made g c = λ newest.
@@ -55,12 +56,12 @@ returns-in-Nothing-clause-made g c = λ newest.
     let members = numbers p.members.items in (
       record { went = true; stored = 0 },
       sector_of 0,
-      met_none p newest sizes told C c.args.calls.now c.args.k (record { went = true; stored = 0 }) (sector_of 0) c.args.work.op (step_of members c.args.work.step) (NoNeed) (out_of p c.args.control.now Zero) (ap failed_of c.requires.live) c.requires.job
+      met_none p newest sizes told C c.args.calls.now c.args.k (record { went = true; stored = 0 }) (sector_of 0) c.args.work.now.op (step_of members c.args.work.now.step) (NoNeed) (out_of p c.args.control.now Zero) (ap failed_of c.requires.live) c.requires.job
           (sym (ap (need_of (numbers c.args.plan.now.members.items)) c.in-Nothing.is) ∙ c.need.ensures) refl (refl) (g.B.Bank.opening c.args.bank.now),
     )
 
-pub returns-in-Answer-clause-made : goal.returns-in-Answer-clause-made
-returns-in-Answer-clause-made g c = λ newest.
+pub returns-in-Done-clause-made : goal.returns-in-Done-clause-made
+returns-in-Done-clause-made g c = λ newest.
     let p = c.args.plan.now in
     let sizes = g.B.Bank.sizes c.args.bank.now in
     let told = g.B.Bank.log c.args.bank.now in
@@ -68,8 +69,21 @@ returns-in-Answer-clause-made g c = λ newest.
     let members = numbers p.members.items in (
       record { went = true; stored = 0 },
       sector_of 0,
-      met_none p newest sizes told C c.args.calls.now c.args.k (record { went = true; stored = 0 }) (sector_of 0) c.args.work.op (step_of members c.args.work.step) (Answers c.in-Answer.answer) (out_of p c.answer.new.self c.answer.result) (ap failed_of c.requires.live) c.requires.job
-          (sym (ap (need_of (numbers c.args.plan.now.members.items)) c.in-Answer.is) ∙ c.need.ensures) refl (c.answer.ensures p) (g.B.Bank.opening c.args.bank.now),
+      met_none p newest sizes told C c.args.calls.now c.args.k (record { went = true; stored = 0 }) (sector_of 0) c.args.work.now.op (step_of members c.args.work.now.step) (Answers Done) (out_of p c.answer.new.self c.answer.result) (ap failed_of c.requires.live) c.requires.job
+          (sym (ap (need_of (numbers c.args.plan.now.members.items)) c.in-Done.is) ∙ c.need.ensures) refl (c.answer.ensures p) (g.B.Bank.opening c.args.bank.now),
+    )
+
+pub returns-in-Value-clause-made : goal.returns-in-Value-clause-made
+returns-in-Value-clause-made g c = λ newest.
+    let p = c.args.plan.now in
+    let sizes = g.B.Bank.sizes c.args.bank.now in
+    let told = g.B.Bank.log c.args.bank.now in
+    let C = control_of p c.args.control.now in
+    let members = numbers p.members.items in (
+      record { went = true; stored = 0 },
+      sector_of 0,
+      met_none p newest sizes told C c.args.calls.now c.args.k (record { went = true; stored = 0 }) (sector_of 0) c.args.work.now.op (step_of members c.args.work.now.step) (Answers (Value c.in-Value.value.now)) (out_of p c.answer-in-Value.new.self c.answer-in-Value.result) (ap failed_of c.requires.live) c.requires.job
+          (sym (ap (need_of (numbers c.args.plan.now.members.items)) c.in-Value.is) ∙ c.need.ensures) refl (c.answer-in-Value.ensures p) (g.B.Bank.opening c.args.bank.now),
     )
 
 pub returns-in-Ok-clause-made : goal.returns-in-Ok-clause-made
@@ -82,11 +96,11 @@ returns-in-Ok-clause-made g c = λ newest.
     let now = g.B.Bank.log c.read_row.new.bank in (
       record { went = true; stored = 0 },
       c.in-Ok.got,
-      met_some p newest sizes told now C c.args.calls.now c.args.k (record { went = true; stored = 0 }) (c.in-Ok.got) c.args.work.op (step_of members c.args.work.step) (Reads c.in-Read.disk.0) (out_of p c.step_to.new.control c.step_to.result) (record { disk = c.in-Read.disk.0; what = Read (p.pba + row_at (plan_setting p) c.args.work.op); went = true }) (ap failed_of c.requires.live) c.requires.job
+      met_some p newest sizes told now C c.args.calls.now c.args.k (record { went = true; stored = 0 }) (c.in-Ok.got) c.args.work.now.op (step_of members c.args.work.now.step) (Reads c.in-Read.disk.0) (out_of p c.step_to.new.control c.step_to.result) (record { disk = c.in-Read.disk.0; what = Read (p.pba + row_at (plan_setting p) c.args.work.now.op); went = true }) (ap failed_of c.requires.live) c.requires.job
           (sym (ap (need_of (numbers c.args.plan.now.members.items)) c.in-Read.is) ∙ c.need.ensures) refl (c.step_to.ensures p)
-          (subst (λ (b : Bool). Logs told now (record { disk = c.in-Read.disk.0; what = Read (p.pba + row_at (plan_setting p) c.args.work.op); went = b })) (ap is_ok c.in-Ok.is) c.read_row.ensures.logs)
+          (subst (λ (b : Bool). Logs told now (record { disk = c.in-Read.disk.0; what = Read (p.pba + row_at (plan_setting p) c.args.work.now.op); went = b })) (ap is_ok c.in-Ok.is) c.read_row.ensures.logs)
           (g.B.Bank.opening c.read_row.new.bank)
-          (λ place read went. let same : p.pba + row_at (plan_setting p) c.args.work.op ≡ place = cc read in subst (λ (z : ℕ). Gives (g.B.Bank.opening c.read_row.new.bank) now c.in-Read.disk.0 z c.in-Ok.got) same c.in-Ok.ensures.gives),
+          (λ place read went. let same : p.pba + row_at (plan_setting p) c.args.work.now.op ≡ place = cc read in subst (λ (z : ℕ). Gives (g.B.Bank.opening c.read_row.new.bank) now c.in-Read.disk.0 z c.in-Ok.got) same c.in-Ok.ensures.gives),
     )
 
 pub returns-in-Err-clause-made : goal.returns-in-Err-clause-made
@@ -99,9 +113,9 @@ returns-in-Err-clause-made g c = λ newest.
     let now = g.B.Bank.log c.read_row.new.bank in (
       record { went = false; stored = 0 },
       sector_of 0,
-      met_some p newest sizes told now C c.args.calls.now c.args.k (record { went = false; stored = 0 }) (sector_of 0) c.args.work.op (step_of members c.args.work.step) (Reads c.in-Read.disk.0) (out_of p c.drop_disk.new.control c.drop_disk.result) (record { disk = c.in-Read.disk.0; what = Read (p.pba + row_at (plan_setting p) c.args.work.op); went = false }) (ap failed_of c.requires.live) c.requires.job
+      met_some p newest sizes told now C c.args.calls.now c.args.k (record { went = false; stored = 0 }) (sector_of 0) c.args.work.now.op (step_of members c.args.work.now.step) (Reads c.in-Read.disk.0) (out_of p c.drop_disk.new.control c.drop_disk.result) (record { disk = c.in-Read.disk.0; what = Read (p.pba + row_at (plan_setting p) c.args.work.now.op); went = false }) (ap failed_of c.requires.live) c.requires.job
           (sym (ap (need_of (numbers c.args.plan.now.members.items)) c.in-Read.is) ∙ c.need.ensures) refl (c.drop_disk.ensures p)
-          (subst (λ (b : Bool). Logs told now (record { disk = c.in-Read.disk.0; what = Read (p.pba + row_at (plan_setting p) c.args.work.op); went = b })) (ap is_ok c.in-Err.is) c.read_row.ensures.logs) (g.B.Bank.opening c.read_row.new.bank) (λ place read went. absurd (cc went)),
+          (subst (λ (b : Bool). Logs told now (record { disk = c.in-Read.disk.0; what = Read (p.pba + row_at (plan_setting p) c.args.work.now.op); went = b })) (ap is_ok c.in-Err.is) c.read_row.ensures.logs) (g.B.Bank.opening c.read_row.new.bank) (λ place read went. absurd (cc went)),
     )
 
 pub returns-then-write_row-clause-made : goal.returns-then-write_row-clause-made
@@ -114,9 +128,9 @@ returns-then-write_row-clause-made g c = λ newest.
     let now = g.B.Bank.log c.write_row.new.bank in (
       record { went = true; stored = c.write_row.ensures.logs.0 },
       sector_of 0,
-      met_some p newest sizes told now C c.args.calls.now c.args.k (record { went = true; stored = c.write_row.ensures.logs.0 }) (sector_of 0) c.args.work.op (step_of members c.args.work.step) (Writes c.in-Write.disk.0 (drop c.in-Write.rest members)) (out_of p c.step_to-then-write_row.new.control c.step_to-then-write_row.result) (record { disk = c.in-Write.disk.0; what = Write (p.pba + row_at (plan_setting p) c.args.work.op) (value_at (plan_setting p) c.args.work.op ∷ []) (1); went = true }) (ap failed_of c.requires.live) c.requires.job
-          (sym (ap (need_of (numbers c.args.plan.now.members.items)) c.in-Write.is) ∙ c.need.ensures) refl (c.step_to-then-write_row.ensures p ∙ ap (λ (s : jobs.JobStep). record { next = put_client C c.args.k (client_at C.clients c.args.k).left (Busy c.args.work.op s); events = [] }) (c.after_write.ensures ∙ after_write_same p newest sizes (drop c.in-Write.rest members)))
-          (subst (λ (b : Bool). Logs told now (record { disk = c.in-Write.disk.0; what = Write (p.pba + row_at (plan_setting p) c.args.work.op) (value_at (plan_setting p) c.args.work.op ∷ []) (if b then 1 else c.write_row.ensures.logs.0); went = b })) c.if-write_row.true c.write_row.ensures.logs.1) (g.B.Bank.opening c.write_row.new.bank) (λ place read went. absurd (cc read)),
+      met_some p newest sizes told now C c.args.calls.now c.args.k (record { went = true; stored = c.write_row.ensures.logs.0 }) (sector_of 0) c.args.work.now.op (step_of members c.args.work.now.step) (Writes c.in-Write.disk.0 (drop c.in-Write.rest members)) (out_of p c.step_to-then-write_row.new.control c.step_to-then-write_row.result) (record { disk = c.in-Write.disk.0; what = Write (p.pba + row_at (plan_setting p) c.args.work.now.op) (value_at (plan_setting p) c.args.work.now.op ∷ []) (1); went = true }) (ap failed_of c.requires.live) c.requires.job
+          (sym (ap (need_of (numbers c.args.plan.now.members.items)) c.in-Write.is) ∙ c.need.ensures) refl (c.step_to-then-write_row.ensures p ∙ ap (λ (s : jobs.JobStep). record { next = put_client C c.args.k (client_at C.clients c.args.k).left (Busy c.args.work.now.op s); events = [] }) (c.after_write.ensures ∙ after_write_same p newest sizes (drop c.in-Write.rest members)))
+          (subst (λ (b : Bool). Logs told now (record { disk = c.in-Write.disk.0; what = Write (p.pba + row_at (plan_setting p) c.args.work.now.op) (value_at (plan_setting p) c.args.work.now.op ∷ []) (if b then 1 else c.write_row.ensures.logs.0); went = b })) c.if-write_row.true c.write_row.ensures.logs.1) (g.B.Bank.opening c.write_row.new.bank) (λ place read went. absurd (cc read)),
     )
 
 pub returns-else-write_row-clause-made : goal.returns-else-write_row-clause-made
@@ -129,9 +143,9 @@ returns-else-write_row-clause-made g c = λ newest.
     let now = g.B.Bank.log c.write_row.new.bank in (
       record { went = false; stored = c.write_row.ensures.logs.0 },
       sector_of 0,
-      met_some p newest sizes told now C c.args.calls.now c.args.k (record { went = false; stored = c.write_row.ensures.logs.0 }) (sector_of 0) c.args.work.op (step_of members c.args.work.step) (Writes c.in-Write.disk.0 (drop c.in-Write.rest members)) (out_of p c.drop_disk-else-write_row.new.control c.drop_disk-else-write_row.result) (record { disk = c.in-Write.disk.0; what = Write (p.pba + row_at (plan_setting p) c.args.work.op) (value_at (plan_setting p) c.args.work.op ∷ []) (c.write_row.ensures.logs.0); went = false }) (ap failed_of c.requires.live) c.requires.job
+      met_some p newest sizes told now C c.args.calls.now c.args.k (record { went = false; stored = c.write_row.ensures.logs.0 }) (sector_of 0) c.args.work.now.op (step_of members c.args.work.now.step) (Writes c.in-Write.disk.0 (drop c.in-Write.rest members)) (out_of p c.drop_disk-else-write_row.new.control c.drop_disk-else-write_row.result) (record { disk = c.in-Write.disk.0; what = Write (p.pba + row_at (plan_setting p) c.args.work.now.op) (value_at (plan_setting p) c.args.work.now.op ∷ []) (c.write_row.ensures.logs.0); went = false }) (ap failed_of c.requires.live) c.requires.job
           (sym (ap (need_of (numbers c.args.plan.now.members.items)) c.in-Write.is) ∙ c.need.ensures) refl (c.drop_disk-else-write_row.ensures p)
-          (subst (λ (b : Bool). Logs told now (record { disk = c.in-Write.disk.0; what = Write (p.pba + row_at (plan_setting p) c.args.work.op) (value_at (plan_setting p) c.args.work.op ∷ []) (if b then 1 else c.write_row.ensures.logs.0); went = b })) c.if-write_row.false c.write_row.ensures.logs.1) (g.B.Bank.opening c.write_row.new.bank) (λ place read went. absurd (cc read)),
+          (subst (λ (b : Bool). Logs told now (record { disk = c.in-Write.disk.0; what = Write (p.pba + row_at (plan_setting p) c.args.work.now.op) (value_at (plan_setting p) c.args.work.now.op ∷ []) (if b then 1 else c.write_row.ensures.logs.0); went = b })) c.if-write_row.false c.write_row.ensures.logs.1) (g.B.Bank.opening c.write_row.new.bank) (λ place read went. absurd (cc read)),
     )
 
 pub returns-in-Ok-sync-clause-made : goal.returns-in-Ok-sync-clause-made
@@ -144,8 +158,8 @@ returns-in-Ok-sync-clause-made g c = λ newest.
     let now = g.B.Bank.log c.sync.new.self in (
       record { went = true; stored = 0 },
       sector_of 0,
-      met_some p newest sizes told now C c.args.calls.now c.args.k (record { went = true; stored = 0 }) (sector_of 0) c.args.work.op (step_of members c.args.work.step) (Syncs c.in-Sync.disk.0 (drop c.in-Sync.rest members)) (out_of p c.step_to-in-Ok-sync.new.control c.step_to-in-Ok-sync.result) (record { disk = c.in-Sync.disk.0; what = Sync; went = true }) (ap failed_of c.requires.live) c.requires.job
-          (sym (ap (need_of (numbers c.args.plan.now.members.items)) c.in-Sync.is) ∙ c.need.ensures) refl (c.step_to-in-Ok-sync.ensures p ∙ ap (λ (s : jobs.JobStep). record { next = put_client C c.args.k (client_at C.clients c.args.k).left (Busy c.args.work.op s); events = [] }) c.after_sync.ensures)
+      met_some p newest sizes told now C c.args.calls.now c.args.k (record { went = true; stored = 0 }) (sector_of 0) c.args.work.now.op (step_of members c.args.work.now.step) (Syncs c.in-Sync.disk.0 (drop c.in-Sync.rest members)) (out_of p c.step_to-in-Ok-sync.new.control c.step_to-in-Ok-sync.result) (record { disk = c.in-Sync.disk.0; what = Sync; went = true }) (ap failed_of c.requires.live) c.requires.job
+          (sym (ap (need_of (numbers c.args.plan.now.members.items)) c.in-Sync.is) ∙ c.need.ensures) refl (c.step_to-in-Ok-sync.ensures p ∙ ap (λ (s : jobs.JobStep). record { next = put_client C c.args.k (client_at C.clients c.args.k).left (Busy c.args.work.now.op s); events = [] }) c.after_sync.ensures)
           (subst (λ (b : Bool). Logs told now (record { disk = c.in-Sync.disk.0; what = Sync; went = b })) (ap is_ok c.in-Ok-sync.is) c.sync.ensures.logs) (g.B.Bank.opening c.sync.new.self) (λ place read went. absurd (cc read)),
     )
 
@@ -159,7 +173,7 @@ returns-in-Err-sync-clause-made g c = λ newest.
     let now = g.B.Bank.log c.sync.new.self in (
       record { went = false; stored = 0 },
       sector_of 0,
-      met_some p newest sizes told now C c.args.calls.now c.args.k (record { went = false; stored = 0 }) (sector_of 0) c.args.work.op (step_of members c.args.work.step) (Syncs c.in-Sync.disk.0 (drop c.in-Sync.rest members)) (out_of p c.drop_disk-in-Err-sync.new.control c.drop_disk-in-Err-sync.result) (record { disk = c.in-Sync.disk.0; what = Sync; went = false }) (ap failed_of c.requires.live) c.requires.job
+      met_some p newest sizes told now C c.args.calls.now c.args.k (record { went = false; stored = 0 }) (sector_of 0) c.args.work.now.op (step_of members c.args.work.now.step) (Syncs c.in-Sync.disk.0 (drop c.in-Sync.rest members)) (out_of p c.drop_disk-in-Err-sync.new.control c.drop_disk-in-Err-sync.result) (record { disk = c.in-Sync.disk.0; what = Sync; went = false }) (ap failed_of c.requires.live) c.requires.job
           (sym (ap (need_of (numbers c.args.plan.now.members.items)) c.in-Sync.is) ∙ c.need.ensures) refl (c.drop_disk-in-Err-sync.ensures p)
           (subst (λ (b : Bool). Logs told now (record { disk = c.in-Sync.disk.0; what = Sync; went = b })) (ap is_ok c.in-Err-sync.is) c.sync.ensures.logs) (g.B.Bank.opening c.sync.new.self) (λ place read went. absurd (cc read)),
     )
