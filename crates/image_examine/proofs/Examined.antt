@@ -4,7 +4,7 @@ use Rattle.std.specs.Prelude.{IfSome}
 use Rattle.std.specs.List.{AllByRecursion}
 use Rattle.units.specs.declared.disk.Sector.{Sector}
 use Rattle.units.specs.Places.{anchor_place}
-use Rattle.device_log.specs.Log.{Call, OnlyReads}
+use Rattle.device_log.specs.Log.{Call}
 use Rattle.mpb_store.specs.Banks.{AreRead, IsReadOf, LogsLook, LogsReads, has_failed, places_read, sector_after}
 use Rattle.image_examine.specs.Endings.{IsLook}
 use Rattle.mpb_store.proofs.Told.{if_told}
@@ -39,7 +39,3 @@ look_alone n opening old new failed fresh logs now told =
       reads = subst (AreRead 0 (places_read n anchor) failed) (all_new old before reads now fresh was is) each;
       stands = if_told opening (λ o. anchor ≡ (sector_after o now 0 (anchor_place n)).0) stands;
     }
-
-pub only_reads : (d : ℕ) (log : List Call) → AllByRecursion (IsReadOf d) log → OnlyReads log
-only_reads d [] each = tt
-only_reads d (call ∷ log) (first, rest) = (first.read, only_reads d log rest)

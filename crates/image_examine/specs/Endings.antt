@@ -1,5 +1,5 @@
 -- How an examination ends. Source: this project's own.
-use Rattle.std.specs.Prelude.{◌≡◌, ℕ, Bool, List, [], ◌∷◌, Option, IfSome}
+use Rattle.std.specs.Prelude.{◌≡◌, ℕ, ◌⊎◌, Bool, List, [], ◌∷◌, Option, IfSome}
 use Rattle.units.specs.declared.disk.Sector.{Sector}
 use Rattle.units.specs.declared.disk.Serial.{Serial}
 use Rattle.imsm_base.specs.Parts.{block_in}
@@ -11,6 +11,7 @@ use Rattle.mpb_store.specs.declared.answer.Found.{Found}
 use Rattle.mpb_store.specs.declared.answer.Found.TheVariants.{Whole, Unread}
 use Rattle.mpb_store.specs.Answers.{IsPastFront}
 use Rattle.mpb_store.specs.Banks.{AreRead, IsAnswerOn, has_failed, is_unread, places_read, sector_after}
+use Rattle.image_outside.specs.Shelves.{IsUncalled}
 use Rattle.image_outside.specs.Told.{BankTold}
 use Rattle.image_examine.specs.Text.{found_status, found_text}
 
@@ -41,3 +42,14 @@ pub record Examines (bank : BankTold) (lines : List ℕ) (status : ℕ) : Type 0
   pub unread : found ≡ Unread → Rose 0 (bank.faults 0)
   pub status_is : status ≡ found_status found
   pub lines_are : lines ≡ found_text found block
+
+-- the one disk of a bank was looked at, and nothing else was done, where it tells its log
+pub record HasLooked (bank : BankTold) : Type 0 where
+  pub sectors : ℕ
+  pub sized : bank.sizes ≡ sectors ∷ []
+  pub failed : Bool
+  pub reads : IfSome bank.log (IsLook sectors bank.opening failed)
+
+-- or no call was made yet
+abbrev pub HasLookedOrNot : BankTold → Type 0
+HasLookedOrNot bank = IsUncalled bank ⊎ HasLooked bank

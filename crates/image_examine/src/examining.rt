@@ -2,11 +2,11 @@
 ghost use Rattle.std.specs.Prelude.{◌≡◌, ◌<◌, ◌≤◌, ℕ, length};
 ghost use Rattle.member_bank.specs.Told.{Keeps};
 ghost use Rattle.image_outside.specs.Endings.{EndsIfMemory, Prints};
-ghost use Rattle.image_outside.specs.Shelves.{HasOnlyReads, IsUncalled};
+ghost use Rattle.image_outside.specs.Shelves.{IsUncalled};
 ghost use Rattle.image_outside.specs.Told.{bank_told};
 ghost use Rattle.image_outside.specs.Views.{sink_told};
 ghost use Rattle.image_examine.specs.Text.{found_status as status_of, found_text as text_of};
-ghost use Rattle.image_examine.specs.Endings.{Examines};
+ghost use Rattle.image_examine.specs.Endings.{Examines, HasLookedOrNot};
 
 use crate::text::{found_status, found_text};
 use image_outside::{Sink, Status, end, end_without_memory};
@@ -36,7 +36,7 @@ pub fn examine<B: Bank, K: Sink>(alloc: Global, bank: &mut B, sink: &mut K) -> S
     requires fresh { IsUncalled (bank_told B.Bank bank.old) }
     requires sound { (d : ℕ) → d < length (B.serials bank.old) → B.faults_of bank.old d ≡ 0 }
     requires one { length (B.serials bank.old) ≡ 1 }
-    ensures reads { HasOnlyReads (bank_told B.Bank bank.new) }
+    ensures looked { HasLookedOrNot (bank_told B.Bank bank.new) }
     ensures ends { EndsIfMemory (sink_told K.Sink sink.old) (sink_told K.Sink sink.new)
         (Examines (bank_told B.Bank bank.new)) result.0 }
     ensures opening { Keeps (B.opening bank.old) (B.opening bank.new) }

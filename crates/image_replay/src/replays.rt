@@ -3,13 +3,14 @@ ghost use Rattle.std.specs.Prelude.{◌≡◌, ◌≤◌, ◌^◌, true, false, 
 ghost use Rattle.std.specs.List.{list_all};
 ghost use Rattle.first_opening.specs.Opened.{is_first_op};
 ghost use Rattle.stage_law.specs.Runs.{AsksRows};
+ghost use Rattle.image_outside.specs.declared.status.TheConstants.Status.{MEMORY};
 ghost use Rattle.image_outside.specs.Endings.{Ends, EndsIfMemory, Prints};
 ghost use Rattle.image_outside.specs.Outside.{Adds};
-ghost use Rattle.image_outside.specs.Shelves.{HasOnlyReads, IsUncalled};
+ghost use Rattle.image_outside.specs.Shelves.{IsUncalled};
 ghost use Rattle.image_outside.specs.Told.{bank_told};
 ghost use Rattle.image_outside.specs.Views.{sink_told, WriteBreaksOff};
 ghost use Rattle.run_script.specs.Within.{IsWithin};
-ghost use Rattle.image_verdict.specs.Images.{blank_serial, serials_of_all, HasReadAnchors, IsFoundOn};
+ghost use Rattle.image_verdict.specs.Images.{blank_serial, serials_of_all, HasReadAnchors, HasReadFirst, IsFoundOn};
 ghost use Rattle.image_start.specs.Starts.{Starts};
 ghost use Rattle.image_replay.specs.Ends.{asks_second, end_status, volume_named};
 ghost use Rattle.image_replay.specs.Lines.{absent_volume_line, end_line, run_text};
@@ -123,7 +124,7 @@ fn play<B: Bank, K: Sink>(
     requires first { list_all is_first_op script.now.ops ≡ true }
     ensures ends { EndsIfMemory (sink_told K.Sink sink.old) (sink_told K.Sink sink.new)
         (Replays script.now limit (bank_told B.Bank result.0)) result.1.0 }
-    ensures unrun { result.1.0 ≡ 9 → result.0 ≡ bank }
+    ensures unrun { result.1.0 ≡ MEMORY.0 → result.0 ≡ bank }
     ensures same { B.serials result.0 ≡ B.serials bank }
 {
     match run(alloc, bank, images, script, limit) {
@@ -153,7 +154,7 @@ pub fn replay<B: Bank, K: Sink>(
     requires script { IsWithin script.now }
     ensures ends { EndsIfMemory (sink_told K.Sink sink.old) (sink_told K.Sink sink.new)
         (ReplaysBy script.now limit (bank_told B.Bank result.0)) result.1.0 }
-    ensures unrun { result.1.0 ≡ 9 → HasOnlyReads (bank_told B.Bank result.0) }
+    ensures unrun { result.1.0 ≡ MEMORY.0 → HasReadFirst (bank_told B.Bank result.0) }
     ensures serials { B.serials result.0 ≡ B.serials bank }
 {
     let images = match read_images(alloc, &mut bank) {

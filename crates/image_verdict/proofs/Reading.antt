@@ -11,10 +11,10 @@ use Rattle.units.specs.Places.{anchor_place}
 use Rattle.device_log.specs.Log.{Call, Read, OnlyReads}
 use Rattle.device_log.specs.Cells.{Cell, Stands, cell_after, resting}
 use Rattle.member_bank.specs.Told.{Keeps, LogsAll, Gives}
-use Rattle.image_outside.specs.Shelves.{HasOnlyReads}
+use Rattle.image_outside.specs.Shelves.{HasOnlyReads, IsUncalled}
 use Rattle.image_outside.specs.Told.{BankTold}
 use Rattle.image_verdict.specs.declared.images.ImageRead.{ImageRead}
-use Rattle.image_verdict.specs.Images.{anchor_calls, anchor_reads, anchor_reads_from, serials_of_all, sizes_of_all, IsAnchorOn, IsFoundOn, StandIn}
+use Rattle.image_verdict.specs.Images.{anchor_calls, anchor_reads, anchor_reads_from, serials_of_all, sizes_of_all, HasReadFirst, IsAnchorOn, IsFoundOn, StandIn}
 use Rattle.device_log.proofs.Cells.{cell_after-reads}
 
 stands_first : (o : List (List Sector)) (log : List Call) (d p : ℕ) (s : Sector) → OnlyReads log → Stands o log d p s
@@ -134,11 +134,27 @@ module _ (old new : BankTold) (d : ℕ) (images : List ImageRead) (image : Image
     calls = more_calls;
   }
 
-pub reads_of : (bank : BankTold) (count : ℕ) (images : List ImageRead) → AreFound bank count images → HasOnlyReads bank
-reads_of bank count images found = at bank.log found.calls where
-  at : (log : Option (List Call)) → ((l : List Call) → log ≡ Some l → l ≡ anchor_reads images) → IfSome log OnlyReads
-  at None calls = tt
-  at (Some l) calls = subst OnlyReads (sym (calls l refl)) (anchors_only_read images)
+pub read_first : (bank : BankTold) (count : ℕ) (images : List ImageRead) → AreFound bank count images → HasReadFirst bank
+read_first bank count images found = record {
+  images = images;
+  sized = subst (λ (n : ℕ). sizes_of_all images ≡ take n bank.sizes) (sym found.counted) found.sized;
+  reads = at bank.log found.calls;
+}
+  where
+    at : (log : Option (List Call)) → ((l : List Call) → log ≡ Some l → l ≡ anchor_reads images) → IfSome log (λ l. l ≡ anchor_reads images)
+    at None calls = tt
+    at (Some l) calls = calls l refl
+
+-- nothing but reads was done, where anchors were read
+pub first_only_read : (bank : BankTold) → HasReadFirst bank → HasOnlyReads bank
+first_only_read bank first = at bank.log first.reads where
+  at : (log : Option (List Call)) → IfSome log (λ l. l ≡ anchor_reads first.images) → IfSome log OnlyReads
+  at None reads = tt
+  at (Some l) reads = subst OnlyReads (sym reads) (anchors_only_read first.images)
+
+-- no anchor was read, where no call was made
+pub none_read : (bank : BankTold) → IsUncalled bank → HasReadFirst bank
+none_read bank uncalled = record { images = []; sized = refl; reads = uncalled }
 
 -- THE IMAGES OF ALL DISKS
 

@@ -1,5 +1,5 @@
 -- The images of a bank, after the anchor of each was read once. Source: this project's own.
-use Rattle.std.specs.Prelude.{◌≡◌, ℕ, suc, ◌<◌, ◌≤◌, ◌⊎◌, nat_lt, if◌then◌else◌, List, [], ◌∷◌, ◌++◌, map, length, replicate, slice_get, slice_index_or, Option, Some, None, IfSome, is_some}
+use Rattle.std.specs.Prelude.{◌≡◌, ℕ, suc, ◌<◌, ◌≤◌, ◌⊎◌, nat_lt, if◌then◌else◌, List, [], ◌∷◌, ◌++◌, map, length, take, replicate, slice_get, slice_index_or, Option, Some, None, IfSome, is_some}
 use Rattle.units.specs.declared.bounds.TheConstants.{METADATA_SECTORS, SERIAL_BYTES}
 use Rattle.units.specs.declared.disk.Sector.{Sector}
 use Rattle.units.specs.declared.disk.Serial.{Serial}
@@ -56,3 +56,10 @@ pub record IsFoundOn (bank : BankTold) (images : List ImageRead) : Type 0 where
 -- nothing was done on a bank's disks but that, where it tells its log
 abbrev pub HasReadAnchors : BankTold → List ImageRead → Type 0
 HasReadAnchors bank images = IfSome bank.log (λ log. log ≡ anchor_reads images)
+
+-- the anchors of some first disks of a bank were read, each once and in order, and nothing else was done, where it tells
+-- its log
+pub record HasReadFirst (bank : BankTold) : Type 0 where
+  pub images : List ImageRead
+  pub sized : sizes_of_all images ≡ take (length images) bank.sizes
+  pub reads : HasReadAnchors bank images

@@ -5,8 +5,8 @@ ghost use Rattle.units.specs.declared.disk.Sector.{Sector as SectorBytes};
 ghost use Rattle.units.specs.Places.{anchor_place};
 ghost use Rattle.member_bank.specs.Told.{Keeps, LogsAll, Gives};
 ghost use Rattle.image_outside.specs.Told.{bank_told};
-ghost use Rattle.image_outside.specs.Shelves.{HasOnlyReads, IsUncalled};
-ghost use Rattle.image_verdict.specs.Images.{anchor_calls, HasReadAnchors, IsAnchorOn, IsFoundOn};
+ghost use Rattle.image_outside.specs.Shelves.{IsUncalled};
+ghost use Rattle.image_verdict.specs.Images.{anchor_calls, HasReadAnchors, HasReadFirst, IsAnchorOn, IsFoundOn};
 
 use member_bank::Bank;
 use std::alloc::{AllocError, Global};
@@ -73,7 +73,7 @@ pub fn read_images<B: Bank>(alloc: Global, bank: &mut B) -> Result<Vec<ImageRead
     requires { IsUncalled (bank_told B.Bank bank.old) }
     ensures found { IfOk result (λ images. IsFoundOn (bank_told B.Bank bank.new) images.items) }
     ensures calls { IfOk result (λ images. HasReadAnchors (bank_told B.Bank bank.new) images.items) }
-    ensures reads { HasOnlyReads (bank_told B.Bank bank.new) }
+    ensures first { HasReadFirst (bank_told B.Bank bank.new) }
     ensures count { IfOk result (λ images. length images.items ≡ length (B.serials bank.old)) }
     ensures few { IfOk result (λ images. length images.items ≤ MAX_DISKS) }
     ensures distinct { AllPairs (λ a b. a ≢ b) (B.serials bank.new) }

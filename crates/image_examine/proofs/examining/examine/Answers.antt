@@ -1,4 +1,4 @@
-use Rattle.std.proofs.Common.{◌≡◌, ℕ, List, Some, sym, ◌∙◌, ap, subst, arith}
+use Rattle.std.proofs.Common.{◌≡◌, ℕ, List, Some, inr, sym, ◌∙◌, ap, subst, arith}
 use Rattle.std.specs.Prelude.{IfSome, slice_get, slice_index}
 use Rattle.units.specs.declared.disk.Serial.{Serial}
 use Rattle.imsm_base.specs.Parts.{block_in}
@@ -11,16 +11,26 @@ use Rattle.image_outside.specs.Views.{sink_told}
 use Rattle.image_outside.proofs.Ended.{ends_map}
 use Rattle.image_examine.specs.Text.{found_status, found_text}
 use Rattle.image_examine.specs.Endings.{Examines, IsLook}
-use Rattle.image_examine.proofs.Examined.{look_alone, one_of, only_reads, reads_alone}
+use Rattle.image_examine.proofs.Examined.{look_alone, one_of, reads_alone}
 use Rattle.image_examine.proofs.examining.examine.Goals as goal
 use Rattle.mpb_store.proofs.Told.{if_told}
-use Rattle.device_log.specs.Log.{OnlyReads}
 
-pub returns-clause-reads : goal.returns-clause-reads
-returns-clause-reads g c =
-    let log = g.B.Bank.log in
-    if_told (log c.found-found.new.bank) OnlyReads
-    (λ now is. only_reads 0 now (reads_alone (log c.args.bank.now) (log c.found-found.new.bank) 0 (is_unread c.found-found.result) c.requires.fresh c.found-found.ensures.reads now is).each)
+pub returns-clause-looked : goal.returns-clause-looked
+returns-clause-looked g c =
+    let B = g.B.Bank in
+    let before = bank_told B c.args.bank.now in
+    let bank = bank_told B c.found-found.new.bank in
+    let failed = is_unread c.found-found.result in
+    let only = one_of before.sizes (sym c.disks-count.ensures.named ∙ c.requires.one) in
+    let sized : slice_index before.sizes 0 ≡ only.0 = ap (λ (s : List ℕ). slice_index s 0) only.1 in
+    inr (record {
+      sectors = only.0;
+      sized = c.found-found.ensures.sizes ∙ only.1;
+      failed = failed;
+      reads = if_told bank.log (IsLook only.0 bank.opening failed)
+          (look_alone only.0 bank.opening before.log bank.log failed c.requires.fresh
+          (subst (λ (s : ℕ). LogsLook s 0 bank.opening before.log bank.log failed) sized c.found-found.ensures.places));
+    })
 
 pub returns-clause-ends : goal.returns-clause-ends
 returns-clause-ends g c =
