@@ -5,18 +5,19 @@ use Rattle.units.specs.declared.bounds.TheConstants.{MAX_DISKS}
 use Rattle.units.specs.declared.disk.Serial.{Serial}
 use Rattle.new_container.proofs.Whole.{few_disks}
 use Rattle.image_outside.specs.Told.{BankTold, ShelfTold}
-use Rattle.image_outside.specs.Shelves.{IsFresh}
-use Rattle.image_outside.specs.Endings.{Ends, EndsIfMemory, Prints}
+use Rattle.image_outside.specs.Shelves.{IsFresh, IsUnused}
+use Rattle.image_outside.specs.Endings.{Ends, EndsIfMemory, EndsWithoutMemory, Prints}
 use Rattle.image_outside.proofs.Ended.{ends_so}
 use Rattle.image_words.specs.Args.{Asks}
 use Rattle.image_words.specs.Words.{ImageWord, IsCommand, IsPastLimit, IsWithinLimit, serials_named}
 use Rattle.image_words.specs.declared.verbs.Verb.{Verb}
 use Rattle.image_words.specs.declared.verbs.Verb.TheVariants as verbs
 use Rattle.image_run.specs.Does.{Does}
-use Rattle.image_run.specs.Openings.{OpensAll, OpensFresh}
+use Rattle.image_run.specs.Openings.{OpensAll, OpensFresh, OpensFront}
 use Rattle.image_run.specs.Outside.{Outside}
 use Rattle.image_run.specs.Requests.{Request, NotWords, TooManyImages, Assemble, Examine, Create, Replay, IsAsked, request_of}
 use Rattle.image_run.specs.Runs.{Carries, Leaves, Runs}
+use Rattle.image_run.proofs.Opened.{opens_none}
 
 -- ON A BANK THAT WAS LENT
 
@@ -53,6 +54,23 @@ carries request before after One status does leaves (inr (is, memory)) = inr (is
 pub carries_line : (request : Request) (before after : Outside) (lines : List ℕ) (status result : ℕ) → ((told : List ℕ) (s : ℕ) → Prints lines status told s → Does request before after told s)
     → Ends before.sink after.sink (Prints lines status) result → Carries request before after result
 carries_line request before after lines status result does ends = inl (ends_so before.sink after.sink (Prints lines status) (Does request before after) result does ends)
+
+-- nothing was opened: no image is a front of them
+left_shelf : (images : List ImageWord) (before after : Outside) → IsSomeAnd before.shelf.bank IsUnused → after.shelf ≡ before.shelf → OpensFront images before.shelf after.shelf
+left_shelf images before after unused same = subst (λ (shelf : ShelfTold). OpensFront images before.shelf shelf) (sym same) (opens_none images before.shelf unused)
+
+left_untouched : (request : Request) (before after : Outside) → IsSomeAnd before.shelf.bank IsUnused → after.shelf ≡ before.shelf → after.source ≡ before.source → Leaves request before after
+left_untouched NotWords before after unused shelf source = record { shelf = shelf; source = source }
+left_untouched TooManyImages before after unused shelf source = record { shelf = shelf; source = source }
+left_untouched (Assemble images) before after unused shelf source = (source, inl (left_shelf images before after unused shelf))
+left_untouched (Examine images) before after unused shelf source = (source, inl (left_shelf images before after unused shelf))
+left_untouched (Create made images) before after unused shelf source = (source, left_shelf images before after unused shelf)
+left_untouched (Replay limit images) before after unused shelf source = inl (source, left_shelf images before after unused shelf)
+
+-- memory ran out before anything was opened
+pub runs_unmade : (words : List (List ℕ)) (before after : Outside) (status : ℕ) → IsSomeAnd before.shelf.bank IsUnused → after.shelf ≡ before.shelf → after.source ≡ before.source
+    → status ≡ 9 → EndsWithoutMemory before.sink after.sink → Runs words before after status
+runs_unmade words before after status unused shelf source nine ends request asked = inr (nine, ends, left_untouched request before after unused shelf source)
 
 -- THE WORDS
 

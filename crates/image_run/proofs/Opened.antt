@@ -6,7 +6,7 @@ use Rattle.std.specs.Option.{IsSomeAnd, option_map}
 use Rattle.std.specs.Str.{bytes_eq}
 use Rattle.std.proofs.lemmas.Bool.{false≢true, and_parts}
 use Rattle.std.proofs.lemmas.Bool.Decides.{nat_tests}
-use Rattle.std.proofs.lemmas.List.{take_more, map-append}
+use Rattle.std.proofs.lemmas.List.{append-nil, map-append, take_more, take-append-drop}
 use Rattle.std.proofs.lemmas.List.Elements.{All-from_recursion}
 use Rattle.std.proofs.lemmas.Slice.Eq.{bytes_eq-Decides}
 use Rattle.units.specs.declared.bounds.TheConstants.{SERIAL_BYTES}
@@ -17,13 +17,13 @@ use Rattle.member_bank.specs.Told.{Keeps}
 use Rattle.image_outside.specs.Outside.{IsNew}
 use Rattle.member_bank.specs.declared.Bank as bank
 use Rattle.image_outside.specs.Told.{BankTold, ShelfTold, bank_told}
-use Rattle.image_outside.specs.Shelves.{HasOneMore, IsFresh}
+use Rattle.image_outside.specs.Shelves.{HasOneMore, IsFresh, IsUncalled, IsUnused}
 use Rattle.image_words.specs.declared.words.ImageArg.{ImageArg}
 use Rattle.image_words.specs.Words.{ImageWord, IsImageWord, is_name, is_name_byte, is_apart_from, are_distinct, serial_named, serials_named}
 use Rattle.image_words.specs.Args.{word_of, words_of}
 use Rattle.image_words.proofs.Names.{bytes_of_name}
 use Rattle.image_run.specs.Lines.{open_line}
-use Rattle.image_run.specs.Openings.{OpensAll, OpensFresh, OpensNot, paths_named}
+use Rattle.image_run.specs.Openings.{OpensAll, OpensFresh, OpensFront, OpensNot, paths_named}
 use Rattle.image_words.proofs.Grammar.{length-words}
 
 short_test : (n : ℕ) → nat_le n SERIAL_BYTES ≡ true → n ≤ SERIAL_BYTES
@@ -193,3 +193,41 @@ pub more_told : {B : Type 0} (g : bank.Ghosts B) (old new : Option B) (serial : 
 more_told g None new serial more = absurd more
 more_told g (Some a) None serial more = absurd more
 more_told g (Some a) (Some b) serial more = more
+
+-- images that were opened are a front of all
+pub opens_front : (images : List ImageWord) (k : ℕ) (before after : ShelfTold) → OpensFresh (take k images) before after → OpensFront images before after
+opens_front images k before after opens = record {
+  front = take k images;
+  rest = drop k images;
+  are = sym (take-append-drop k images);
+  opened = opens_weaker (λ bank fresh. fresh.fresh) opens;
+}
+
+-- also where the next one found no memory
+pub unfed_front : (images : List ImageWord) (k : ℕ) (before mid after : ShelfTold) → OpensFresh (take k images) before mid → after.bank ≡ mid.bank → after.paths ≡ mid.paths → OpensFront images before after
+unfed_front images k before mid after opens bank paths = opens_front images k before after (record {
+  paths = paths ∙ opens.paths;
+  bank = subst (λ (held : Option BankTold). IsSomeAnd held (λ b. (b.serials ≡ serials_named (take k images)) × IsFresh (serials_named (take k images)) b)) (sym bank) opens.bank;
+})
+
+-- or they are all
+pub opens_all : (images : List ImageWord) (before after : ShelfTold) → OpensFresh images before after → OpensFront images before after
+opens_all images before after opens = record {
+  front = images;
+  rest = [];
+  are = sym (append-nil images);
+  opened = opens_weaker (λ bank fresh. fresh.fresh) opens;
+}
+
+-- and where there are none
+pub opens_none : (images : List ImageWord) (before : ShelfTold) → IsSomeAnd before.bank IsUnused → OpensFront images before before
+opens_none images before unused = record {
+  front = [];
+  rest = images;
+  are = refl;
+  opened = record { paths = sym (append-nil before.paths); bank = held before.bank unused };
+}
+  where
+    held : (bank : Option BankTold) → IsSomeAnd bank IsUnused → IsSomeAnd bank (λ b. (b.serials ≡ []) × IsUncalled b)
+    held None unused = unused
+    held (Some b) unused = (unused.empty, unused.fresh)

@@ -1,6 +1,7 @@
 -- What each request does: what it finds and leaves outside, its lines, and its status. Source: this project's own.
 use Rattle.std.specs.Prelude.{◌≡◌, ℕ, ◌⊎◌, List}
 use Rattle.array_model.specs.Kept.{ScriptState}
+use Rattle.image_outside.specs.declared.status.TheConstants.Status.{LIMIT, WORDS}
 use Rattle.image_outside.specs.Told.{BankTold, ShelfTold}
 use Rattle.image_outside.specs.Shelves.{IsUncalled}
 use Rattle.image_outside.specs.Endings.{Prints}
@@ -54,8 +55,8 @@ ReplayEnds limit images before after lines status =
     ⊎ Replays limit images before after lines status
 
 abbrev pub Does : Request → (before after : Outside) → (lines : List ℕ) → (status : ℕ) → Type 0
-Does NotWords before after lines status = IsUntouched before after × Prints words_line 1 lines status
-Does TooManyImages before after lines status = IsUntouched before after × Prints images_limit_line 10 lines status
+Does NotWords before after lines status = IsUntouched before after × Prints words_line WORDS.0 lines status
+Does TooManyImages before after lines status = IsUntouched before after × Prints images_limit_line LIMIT.0 lines status
 Does (Assemble images) before after lines status =
     WithoutSource before after (OnImages images before.shelf after.shelf Reports lines status)
 Does (Examine images) before after lines status =

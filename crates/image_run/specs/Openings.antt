@@ -2,6 +2,7 @@
 use Rattle.std.specs.Prelude.{◌≡◌, ℕ, List, ◌∷◌, ◌++◌, map}
 use Rattle.std.specs.Option.{IsSomeAnd}
 use Rattle.member_bank.specs.Faults.{Rose}
+use Rattle.image_outside.specs.declared.status.TheConstants.Status.{OPEN_FAULT}
 use Rattle.image_outside.specs.Told.{BankTold, ShelfTold}
 use Rattle.image_outside.specs.Shelves.{IsFresh, IsUncalled}
 use Rattle.image_words.specs.Words.{ImageWord, serials_named}
@@ -26,8 +27,15 @@ pub record OpensNot (images : List ImageWord) (before after : ShelfTold) (lines 
   pub are : images ≡ front ++ image ∷ rest
   pub opened : OpensAll front before after IsUncalled
   pub cause : Rose before.faults after.faults
-  pub status_is : status ≡ 7
+  pub status_is : status ≡ OPEN_FAULT.0
   pub line : lines ≡ open_line image.name
+
+-- some first images were opened, or all, and no call on a disk was made
+pub record OpensFront (images : List ImageWord) (before after : ShelfTold) : Type 0 where
+  pub front : List ImageWord
+  pub rest : List ImageWord
+  pub are : images ≡ front ++ rest
+  pub opened : OpensAll front before after IsUncalled
 
 -- all were opened, and on their bank nothing was done yet
 abbrev pub OpensFresh : List ImageWord → (before after : ShelfTold) → Type 0

@@ -13,6 +13,7 @@ use Rattle.run_script.specs.declared.fault.ScriptFault.TheVariants as faults
 use Rattle.run_script.specs.Grammar.{lines_of}
 use Rattle.run_script.specs.Scripts.{AreRight, IsFirstWrong, orders_in, script_of}
 use Rattle.image_outside.specs.declared.source.TheConstants.{MAX_SOURCE_BYTES}
+use Rattle.image_outside.specs.declared.status.TheConstants.Status.{LIMIT, MEMORY, READ_FAULT, SCRIPT}
 use Rattle.image_outside.specs.Outside.{TakesAll, TakesFront}
 use Rattle.image_outside.specs.Endings.{memory_line}
 use Rattle.image_outside.specs.Told.{SourceTold}
@@ -42,6 +43,12 @@ pub record TakesFault (old new : SourceTold) (fault : ScriptFault) : Type 0 wher
   pub text : List ℕ
   pub taken : TakesText old new text
   pub wrong : IsFirstWrong true (lines_of text) fault
+
+-- some first bytes of what was left of a source were read, and at most one past its limit
+pub record TakesSome (old new : SourceTold) : Type 0 where
+  pub count : ℕ
+  pub few : count ≤ MAX_SOURCE_BYTES + 1
+  pub taken : TakesFront old.left new.left count
 
 -- the cause of a stop; want of memory has none
 abbrev pub StopsBy : (old new : SourceTold) → ScriptStop → Type 0
@@ -79,12 +86,12 @@ stop_line (Line number kind) = script_line number kind
 stop_line (Limit kind number) = limit_line (limit_word kind) number
 
 abbrev pub stop_status : ScriptStop → ℕ
-stop_status Memory = 9
-stop_status Read = 5
-stop_status Bytes = 10
-stop_status (Line number kind) = 4
-stop_status (Limit kind number) = 10
+stop_status Memory = MEMORY.0
+stop_status Read = READ_FAULT.0
+stop_status Bytes = LIMIT.0
+stop_status (Line number kind) = SCRIPT.0
+stop_status (Limit kind number) = LIMIT.0
 
 -- a status without a script: a line is wrong, the source fails, or a limit is passed
 abbrev pub IsStopped : ℕ → Type 0
-IsStopped status = (status ≡ 4) ⊎ (status ≡ 5) ⊎ (status ≡ 10)
+IsStopped status = (status ≡ SCRIPT.0) ⊎ (status ≡ READ_FAULT.0) ⊎ (status ≡ LIMIT.0)

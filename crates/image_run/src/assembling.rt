@@ -3,12 +3,14 @@ ghost use Rattle.std.specs.Prelude.{◌≡◌, ◌≤◌, length};
 ghost use Rattle.std.specs.Option.{IsSomeAnd};
 ghost use Rattle.image_outside.specs.Told.{bank_told};
 ghost use Rattle.image_outside.specs.Views.{shelf_told, sink_told};
-ghost use Rattle.image_outside.specs.Shelves.{HasOnlyReads, IsUncalled, IsUnused};
+ghost use Rattle.image_outside.specs.Shelves.{IsUncalled, IsUnused};
 ghost use Rattle.image_outside.specs.Endings.{EndsIfMemory};
 ghost use Rattle.image_words.specs.Words.{AreImages};
 ghost use Rattle.image_words.specs.Args.{words_of};
 ghost use Rattle.image_verdict.specs.Endings.{Reports};
+ghost use Rattle.image_verdict.specs.Images.{HasReadFirst};
 ghost use Rattle.image_run.specs.Does.{OnImages};
+ghost use Rattle.image_run.specs.Runs.{OnFront};
 
 use crate::opening::open_images;
 use image_outside::{Shelf, Sink, Status, end_without_memory};
@@ -22,7 +24,7 @@ use units::MAX_DISKS;
 fn assemble<B: Bank, K: Sink>(alloc: Global, bank: &mut B, sink: &mut K) -> Status
     requires fresh { IsUncalled (bank_told B.Bank bank.old) }
     requires some { 1 ≤ length (B.serials bank.old) }
-    ensures reads { HasOnlyReads (bank_told B.Bank bank.new) }
+    ensures first { HasReadFirst (bank_told B.Bank bank.new) }
     ensures ends { EndsIfMemory (sink_told K.Sink sink.old) (sink_told K.Sink sink.new)
         (Reports (bank_told B.Bank bank.new)) result.0 }
     ensures serials { B.serials bank.new ≡ B.serials bank.old }
@@ -43,7 +45,8 @@ pub(crate) fn assemble_images<H: Shelf, K: Sink>(
     requires unused { IsSomeAnd (shelf_told H.Shelf H.Held.Bank shelf.old).bank IsUnused }
     requires named { AreImages (words_of images.now) }
     requires few { length images.now ≤ MAX_DISKS }
-    ensures reads { IsSomeAnd (shelf_told H.Shelf H.Held.Bank shelf.new).bank HasOnlyReads }
+    ensures leaves { OnFront (words_of images.now)
+        (shelf_told H.Shelf H.Held.Bank shelf.old) (shelf_told H.Shelf H.Held.Bank shelf.new) HasReadFirst }
     ensures ends { EndsIfMemory (sink_told K.Sink sink.old) (sink_told K.Sink sink.new)
         (OnImages (words_of images.now)
         (shelf_told H.Shelf H.Held.Bank shelf.old) (shelf_told H.Shelf H.Held.Bank shelf.new) Reports) result.0 }

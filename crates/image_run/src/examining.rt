@@ -2,12 +2,13 @@
 ghost use Rattle.std.specs.Prelude.{◌≡◌, length};
 ghost use Rattle.std.specs.Option.{IsSomeAnd};
 ghost use Rattle.image_outside.specs.Views.{shelf_told, sink_told};
-ghost use Rattle.image_outside.specs.Shelves.{HasOnlyReads, IsUnused};
+ghost use Rattle.image_outside.specs.Shelves.{IsUnused};
 ghost use Rattle.image_outside.specs.Endings.{EndsIfMemory};
 ghost use Rattle.image_words.specs.Words.{AreImages};
 ghost use Rattle.image_words.specs.Args.{words_of};
-ghost use Rattle.image_examine.specs.Endings.{Examines};
+ghost use Rattle.image_examine.specs.Endings.{Examines, HasLookedOrNot};
 ghost use Rattle.image_run.specs.Does.{OnImages};
+ghost use Rattle.image_run.specs.Runs.{OnFront};
 
 use crate::opening::open_images;
 use image_examine::examine;
@@ -25,7 +26,8 @@ pub(crate) fn examine_image<H: Shelf, K: Sink>(
     requires unused { IsSomeAnd (shelf_told H.Shelf H.Held.Bank shelf.old).bank IsUnused }
     requires named { AreImages (words_of images.now) }
     requires one { length images.now ≡ 1 }
-    ensures reads { IsSomeAnd (shelf_told H.Shelf H.Held.Bank shelf.new).bank HasOnlyReads }
+    ensures leaves { OnFront (words_of images.now)
+        (shelf_told H.Shelf H.Held.Bank shelf.old) (shelf_told H.Shelf H.Held.Bank shelf.new) HasLookedOrNot }
     ensures ends { EndsIfMemory (sink_told K.Sink sink.old) (sink_told K.Sink sink.new)
         (OnImages (words_of images.now)
         (shelf_told H.Shelf H.Held.Bank shelf.old) (shelf_told H.Shelf H.Held.Bank shelf.new) Examines) result.0 }

@@ -1,14 +1,14 @@
 //! The images of a command are opened on a shelf.
-ghost use Rattle.std.specs.Prelude.{◌≡◌, ℕ, ◌<◌, ◌≤◌, true, length, take, IsSome, IfErr, OnOk, Err};
+ghost use Rattle.std.specs.Prelude.{◌≡◌, ℕ, ◌<◌, ◌≤◌, true, length, take, IsSome, IfErr, OnOk, OnErr, Err};
 ghost use Rattle.std.specs.List.{AllByRecursion};
 ghost use Rattle.std.specs.Option.{IsSomeAnd};
 ghost use Rattle.member_bank.specs.Faults.{Rose};
-ghost use Rattle.image_outside.specs.Shelves.{IsUncalled, IsUnused};
+ghost use Rattle.image_outside.specs.Shelves.{IsUnused};
 ghost use Rattle.image_outside.specs.Views.{shelf_told, sink_told};
 ghost use Rattle.image_outside.specs.Endings.{EndsIfMemory};
 ghost use Rattle.image_words.specs.Words.{IsImageWord, are_distinct};
 ghost use Rattle.image_words.specs.Args.{words_of};
-ghost use Rattle.image_run.specs.Openings.{OpensFresh, OpensNot};
+ghost use Rattle.image_run.specs.Openings.{OpensFresh, OpensFront, OpensNot};
 
 use image_outside::{Shelf, ShelfFault, Sink, Status, end_line, end_without_memory};
 use image_words::ImageArg;
@@ -35,8 +35,9 @@ fn open_all<H: Shelf>(
     requires few { length images.now ≤ MAX_DISKS }
     requires each { AllByRecursion IsImageWord (words_of images.now) }
     requires distinct { are_distinct (words_of images.now) ≡ true }
-    ensures uncalled { IsSomeAnd (shelf_told H.Shelf H.Held.Bank shelf.new).bank IsUncalled }
     ensures ok { OnOk result (OpensFresh (words_of images.now)
+        (shelf_told H.Shelf H.Held.Bank shelf.old) (shelf_told H.Shelf H.Held.Bank shelf.new)) }
+    ensures front { OnErr result (OpensFront (words_of images.now)
         (shelf_told H.Shelf H.Held.Bank shelf.old) (shelf_told H.Shelf H.Held.Bank shelf.new)) }
     ensures failed { (i : ℕ) → result ≡ Err (OpenFault.Failed i) → (i < length images.now)
         × Rose (H.faults_of shelf.old) (H.faults_of shelf.new)
@@ -64,8 +65,9 @@ pub fn open_images<H: Shelf, K: Sink>(
     requires few { length images.now ≤ MAX_DISKS }
     requires each { AllByRecursion IsImageWord (words_of images.now) }
     requires distinct { are_distinct (words_of images.now) ≡ true }
-    ensures uncalled { IsSomeAnd (shelf_told H.Shelf H.Held.Bank shelf.new).bank IsUncalled }
     ensures ok { OnOk result (OpensFresh (words_of images.now)
+        (shelf_told H.Shelf H.Held.Bank shelf.old) (shelf_told H.Shelf H.Held.Bank shelf.new)) }
+    ensures front { OnErr result (OpensFront (words_of images.now)
         (shelf_told H.Shelf H.Held.Bank shelf.old) (shelf_told H.Shelf H.Held.Bank shelf.new)) }
     ensures silent { OnOk result (sink.new ≡ sink.old) }
     ensures ends { IfErr result (λ status. EndsIfMemory (sink_told K.Sink sink.old) (sink_told K.Sink sink.new)

@@ -3,7 +3,7 @@ ghost use Rattle.std.specs.Prelude.{◌≡◌, IfOk, IfErr};
 ghost use Rattle.run_script.specs.Within.{IsWithin};
 ghost use Rattle.image_outside.specs.Endings.{EndsIfMemory, Prints};
 ghost use Rattle.image_outside.specs.Views.{sink_told, source_told};
-ghost use Rattle.image_run.specs.Scripts.{IsScript, IsStopped, StopsBy, TakesScript, kind_word, limit_word, stop_line, stop_status};
+ghost use Rattle.image_run.specs.Scripts.{IsScript, IsStopped, StopsBy, TakesScript, TakesSome, kind_word, limit_word, stop_line, stop_status};
 
 use array_model::Script;
 use image_outside::{
@@ -33,6 +33,7 @@ pub(crate) fn read_script<S: Source>(alloc: Global, source: &mut S) -> Result<Sc
     ensures taken { IfOk result (λ script.
         TakesScript (source_told S.Source source.old) (source_told S.Source source.new) script) }
     ensures within { IfOk result (λ script. IsWithin script) }
+    ensures some { TakesSome (source_told S.Source source.old) (source_told S.Source source.new) }
     ensures stopped { IfErr result (λ stop.
         StopsBy (source_told S.Source source.old) (source_told S.Source source.new) stop) }
 {

@@ -20,7 +20,7 @@ returns-in-Assemble g c =
     let images = words_of c.as_slice.result.now in
     subst (λ (r : Request). Carries r before after done.result.0)
     (sym (same c.args.command.verb (words_of c.args.command.images.items) verbs.Assemble images (c.in-Assemble.is, sym (ap words_of c.as_slice.ensures.value))))
-    (carries (Assemble images) before after (OnImages images before.shelf after.shelf Reports) done.result.0 (λ lines s so. (refl, so)) (λ is. (refl, done.ensures.reads)) done.ensures.ends)
+    (carries (Assemble images) before after (OnImages images before.shelf after.shelf Reports) done.result.0 (λ lines s so. (refl, so)) (λ is. (refl, done.ensures.leaves)) done.ensures.ends)
 
 pub returns-in-Examine : goal.returns-in-Examine
 returns-in-Examine g c =
@@ -31,7 +31,7 @@ returns-in-Examine g c =
     let images = words_of c.as_slice-in-Examine.result.now in
     subst (λ (r : Request). Carries r before after done.result.0)
     (sym (same c.args.command.verb (words_of c.args.command.images.items) verbs.Examine images (c.in-Examine.is, sym (ap words_of c.as_slice-in-Examine.ensures.value))))
-    (carries (Examine images) before after (OnImages images before.shelf after.shelf Examines) done.result.0 (λ lines s so. (refl, so)) (λ is. (refl, done.ensures.reads)) done.ensures.ends)
+    (carries (Examine images) before after (OnImages images before.shelf after.shelf Examines) done.result.0 (λ lines s so. (refl, so)) (λ is. (refl, done.ensures.leaves)) done.ensures.ends)
 
 pub returns-in-Create : goal.returns-in-Create
 returns-in-Create g c =

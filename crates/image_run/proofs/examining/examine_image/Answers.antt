@@ -5,7 +5,7 @@ use Rattle.image_outside.specs.Views.{shelf_told, sink_told}
 use Rattle.image_outside.specs.Endings.{EndsIfMemory}
 use Rattle.image_outside.proofs.Ended.{ends_map}
 use Rattle.image_words.specs.Args.{words_of}
-use Rattle.image_examine.specs.Endings.{Examines}
+use Rattle.image_examine.specs.Endings.{Examines, HasLookedOrNot}
 use Rattle.image_run.specs.Does.{OnImages}
 use Rattle.image_run.specs.Openings.{OpensNot}
 use Rattle.image_run.proofs.Carried.{handed_back}
@@ -36,3 +36,16 @@ returns-clause-ends g c =
     (λ lines status so. inr (handed_back images old mid new (told c.lend-bank.result) now (λ bank. Examines bank lines status) c.in_default.ensures.ok lent
     (c.hand_back.ensures.paths ∙ c.lend-bank.ensures.paths) back c.examine-status.ensures.serials so))
     c.examine-status.ensures.ends)
+
+pub returns-in-Err-clause-leaves : goal.returns-in-Err-clause-leaves
+returns-in-Err-clause-leaves g c = inl c.in-Err.ensures.front
+
+pub returns-clause-leaves : goal.returns-clause-leaves
+returns-clause-leaves g c =
+    let told = bank_told g.H.Held.Bank in
+    let old = shelf_told g.H.Shelf g.H.Held.Bank c.args.shelf.now in
+    let mid = shelf_told g.H.Shelf g.H.Held.Bank c.open_images.new.shelf in
+    let new = shelf_told g.H.Shelf g.H.Held.Bank c.hand_back.new.self in
+    inr (handed_back (words_of c.args.images.now) old mid new (told c.lend-bank.result) (told c.examine-status.new.bank) HasLookedOrNot c.in_default.ensures.ok
+    (ap (option_map told) c.lend-bank.ensures.bank) (c.hand_back.ensures.paths ∙ c.lend-bank.ensures.paths) (ap (option_map told) c.hand_back.ensures.bank)
+    c.examine-status.ensures.serials c.examine-status.ensures.looked)

@@ -1,6 +1,9 @@
-use Rattle.std.proofs.Common.{arith, refl}
+use Rattle.std.proofs.Common.{ap, arith, refl}
+use Rattle.std.specs.Option.{option_map}
+use Rattle.image_outside.specs.Told.{bank_told}
 use Rattle.image_outside.specs.Views.{shelf_told}
-use Rattle.image_run.proofs.Opened.{short_name, arg_at, is_new, more_told, new_held, one_more_opened}
+use Rattle.image_words.specs.Args.{words_of}
+use Rattle.image_run.proofs.Opened.{short_name, arg_at, is_new, more_told, new_held, one_more_opened, unfed_front}
 use Rattle.image_run.proofs.opening.open_all.Goals as goal
 
 pub serial-requires : goal.serial-requires
@@ -19,3 +22,15 @@ loop-i-preserved g c = record {
       (more_told g.H.Held.Bank (g.H.Shelf.held c.loop-i.shelf) (g.H.Shelf.held c.open.new.self) c.serial.result c.in-Ok.ensures.opened);
   later = omega (arith, c.loop-i.invariant.later, c.open.ensures.later);
 }
+
+pub returns-in-Err-Memory-clause-front : goal.returns-in-Err-Memory-clause-front
+returns-in-Err-Memory-clause-front g c =
+    let told = shelf_told g.H.Shelf g.H.Held.Bank in
+    unfed_front (words_of c.args.images.now) c.loop-i.i (told c.args.shelf.now) (told c.loop-i.shelf) (told c.open.new.self) c.loop-i.invariant.opens
+    (ap (option_map (bank_told g.H.Held.Bank)) c.in-Err-Memory.ensures.refused) c.in-Err-Memory.ensures.unlisted
+
+pub returns-in-Err-Failed-clause-front : goal.returns-in-Err-Failed-clause-front
+returns-in-Err-Failed-clause-front g c =
+    let told = shelf_told g.H.Shelf g.H.Held.Bank in
+    unfed_front (words_of c.args.images.now) c.loop-i.i (told c.args.shelf.now) (told c.loop-i.shelf) (told c.open.new.self) c.loop-i.invariant.opens
+    (ap (option_map (bank_told g.H.Held.Bank)) c.in-Err-Failed.ensures.refused) c.in-Err-Failed.ensures.unlisted

@@ -1,4 +1,4 @@
-use Rattle.std.proofs.Common.{◌≡◌, inl, inr, ap, subst, ◌∙◌}
+use Rattle.std.proofs.Common.{◌≡◌, inl, inr, ap, refl, subst, ◌∙◌}
 use Rattle.std.specs.Option.{IsSomeAnd}
 use Rattle.image_outside.specs.Told.{SinkTold}
 use Rattle.image_outside.specs.Views.{sink_told}
@@ -6,8 +6,10 @@ use Rattle.image_outside.specs.Endings.{EndsIfMemory, Prints}
 use Rattle.image_outside.proofs.Ended.{ends_map}
 use Rattle.image_words.specs.Args.{words_of}
 use Rattle.image_words.specs.Words.{serials_named}
+use Rattle.image_verdict.proofs.Reading.{none_read}
 use Rattle.image_replay.specs.Replays.{ReplaysBy}
 use Rattle.image_run.specs.Does.{ReplayEnds}
+use Rattle.image_run.specs.Openings.{OpensNot}
 use Rattle.image_run.specs.Outside.{outside_told}
 use Rattle.image_run.specs.Scripts.{IsStopped, stop_line, stop_status}
 use Rattle.image_run.proofs.Opened.{opens_weaker}
@@ -49,3 +51,23 @@ returns-in-Err-read_script-clause-ends g c =
       prints = so.1;
     })))
     c.end_stopped.ensures)
+
+pub returns-in-Err-clause-ends : goal.returns-in-Err-clause-ends
+returns-in-Err-clause-ends g c =
+    let outside = outside_told g.H.Shelf g.H.Held.Bank g.S.Source g.K.Sink in
+    let before = outside c.args.shelf.now c.args.source.now c.args.sink.now in
+    let after = outside c.open_images.new.shelf c.args.source.now c.open_images.new.sink in
+    let images = words_of c.args.images.now in
+    ends_map before.sink after.sink (OpensNot images before.shelf after.shelf) (ReplayEnds c.args.limit images before after) c.in-Err.status.0
+    (λ lines status not. inl (refl, not)) c.in-Err.ensures.ends
+
+pub returns-in-Err-clause-unrun : goal.returns-in-Err-clause-unrun
+returns-in-Err-clause-unrun g c nine = inl (refl, c.in-Err.ensures.front)
+
+pub returns-in-Ok-clause-unrun : goal.returns-in-Ok-clause-unrun
+returns-in-Ok-clause-unrun g c nine =
+    inr (c.read_script.ensures.some, record { paths = c.replay_on.ensures.paths ∙ c.in_default.ensures.ok.paths; bank = c.replay_on.ensures.unrun nine })
+
+pub returns-in-Err-read_script-clause-unrun : goal.returns-in-Err-read_script-clause-unrun
+returns-in-Err-read_script-clause-unrun g c nine =
+    inr (c.read_script.ensures.some, opens_weaker (λ bank fresh. none_read bank fresh.fresh) c.in_default.ensures.ok)
