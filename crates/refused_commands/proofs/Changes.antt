@@ -1,10 +1,13 @@
 -- A bank on which nothing but reads was made tells no change.
-use Rattle.std.proofs.Common.{◌≡◌, List, [], ◌∷◌, ◌++◌, Option, Some, None, sym, subst}
+use Rattle.std.proofs.Common.{◌≡◌, ◌∙◌, ℕ, Bool, true, false, List, [], ◌∷◌, ◌++◌, map, take, Option, Some, None, inl, inr, sym, subst}
+use Rattle.std.proofs.lemmas.List.{append-nil}
 use Rattle.std.specs.Option.{IsSomeAnd}
 use Rattle.std.specs.Prelude.{IfSome}
 use Rattle.device_log.specs.Log.{Call, IsReadCall, OnlyReads}
 use Rattle.image_outside.specs.Told.{BankTold}
-use Rattle.image_outside.specs.Shelves.{HasOnlyReads, IsUnused}
+use Rattle.image_outside.specs.Shelves.{HasOnlyReads, IsUncalled, IsUnused}
+use Rattle.mpb_store.specs.Banks.{AreRead, places_read, read_of}
+use Rattle.image_examine.specs.Endings.{HasLookedOrNot, IsLook}
 use Rattle.refused_commands.specs.Wrong.{TellsChange}
 
 -- each call of a log of reads is a read
@@ -30,3 +33,23 @@ uncalled_log (Some calls) none = subst OnlyReads (sym none) tt
 pub unused_reads : (held : Option BankTold) → IsSomeAnd held IsUnused → IsSomeAnd held HasOnlyReads
 unused_reads None unused = unused
 unused_reads (Some bank) unused = uncalled_log bank.log unused.fresh
+
+pub uncalled_reads : (bank : BankTold) → IsUncalled bank → HasOnlyReads bank
+uncalled_reads bank uncalled = uncalled_log bank.log uncalled
+
+reads_only : (d : ℕ) (went : Bool) (places : List ℕ) (more : List Call) → OnlyReads more → OnlyReads (map (read_of d went) places ++ more)
+reads_only d went [] more rest = rest
+reads_only d went (p ∷ ps) more rest = (tt, reads_only d went ps more rest)
+
+are_reads : (d : ℕ) (places : List ℕ) (failed : Bool) (calls : List Call) → AreRead d places failed calls → OnlyReads calls
+are_reads d places false calls is =
+    subst OnlyReads (sym (is ∙ sym (append-nil (map (read_of d true) places)))) (reads_only d true places [] tt)
+are_reads d places true calls (k, stops) = subst OnlyReads (sym stops.reads) (reads_only d true (take k places) _ (tt, tt))
+
+-- a look at a disk only reads it
+pub looked_only_reads : (bank : BankTold) → HasLookedOrNot bank → HasOnlyReads bank
+looked_only_reads bank (inl uncalled) = uncalled_reads bank uncalled
+looked_only_reads bank (inr looked) = at bank.log looked.reads where
+  at : (log : Option (List Call)) → IfSome log (IsLook looked.sectors bank.opening looked.failed) → IfSome log OnlyReads
+  at None look = tt
+  at (Some calls) look = are_reads 0 (places_read looked.sectors look.anchor) looked.failed calls look.reads

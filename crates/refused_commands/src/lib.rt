@@ -5,14 +5,15 @@
 //! run that is found to be admitted belongs here, once the definitions refuse it.
 #![tactic(auto)]
 
-ghost use Rattle.std.specs.Prelude.{ℕ, ◌≡◌, ◌≢◌, List, [], ◌∷◌, ◌++◌};
+ghost use Rattle.std.specs.Prelude.{ℕ, ◌≡◌, ◌≢◌, List, [], ◌∷◌, ◌++◌, Some};
 ghost use Rattle.std.specs.Option.{IsSomeAnd};
 ghost use Rattle.device_log.specs.Log.{Call};
 ghost use Rattle.units.specs.declared.disk.Serial.{Serial};
 ghost use Rattle.units.specs.Places.{anchor_place};
 ghost use Rattle.array_model.specs.Kept.{ScriptState};
 ghost use Rattle.new_container.specs.declared.container.NewContainer.{NewContainer};
-ghost use Rattle.image_outside.specs.Shelves.{IsUnused};
+ghost use Rattle.image_outside.specs.Endings.{EndsWithoutMemory};
+ghost use Rattle.image_outside.specs.Shelves.{IsUncalled, IsUnused};
 ghost use Rattle.image_outside.specs.Told.{BankTold};
 ghost use Rattle.image_words.specs.Words.{ImageWord};
 ghost use Rattle.image_verdict.specs.Endings.{Reports};
@@ -84,4 +85,21 @@ pub fn forged_ends_are_refused()
         → StandsStill before.sink.faults after.sink.faults → Carries request before after 6 → ⊥ }
     ensures written { (request : Request) (before after : Outside) → IsSomeAnd before.shelf.bank IsUnused
         → IsSomeAnd after.shelf.bank TellsChange → Carries request before after 9 → ⊥ }
+{}
+
+/// Want of memory is refused behind a file that isn't the first image's, behind a source that was read while no image
+/// was open, and behind an anchor that was read twice. It is admitted at any time before: once both images are open.
+pub fn careless_wants_of_memory_are_refused()
+    ensures elsewhere { (request : Request) (a : ImageWord) (rest : List ImageWord) (path : List ℕ) (before after : Outside)
+        → images_of request ≡ a ∷ rest → path ≢ a.file → after.shelf.paths ≡ before.shelf.paths ++ path ∷ []
+        → Carries request before after 9 → ⊥ }
+    ensures greedy { (limit : ℕ) (a : ImageWord) (rest : List ImageWord) (before after : Outside)
+        → after.source ≢ before.source → after.shelf.paths ≡ before.shelf.paths
+        → Carries (Replay limit (a ∷ rest)) before after 9 → ⊥ }
+    ensures twice { (n : ℕ) (images : List ImageWord) (before after : Outside) (bank : BankTold)
+        → TellsOfOne n (read_of (anchor_place n) ∷ read_of (anchor_place n) ∷ []) bank → after.shelf.bank ≡ Some bank
+        → Carries (Assemble images) before after 9 → ⊥ }
+    ensures opened { (a b : ImageWord) (before after : Outside) (bank : BankTold)
+        → HoldsPair a b before.shelf after.shelf bank → IsUncalled bank → after.source ≡ before.source
+        → EndsWithoutMemory before.sink after.sink → Carries (Assemble (a ∷ b ∷ [])) before after 9 }
 {}

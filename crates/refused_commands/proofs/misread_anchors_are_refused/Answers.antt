@@ -1,8 +1,5 @@
-use Rattle.std.proofs.Common.{◌≡◌, ◌≤◌, ℕ, Bool, false, List, [], ◌∷◌, ◌++◌, Option, Some, refl, sym, subst, ◌∙◌, ap, arith, zero, suc, None, inr}
-use Rattle.std.specs.Prelude.{if◌then◌else◌, nat_lt, is_some, IfSome, slice_get}
-use Rattle.std.proofs.lemmas.Bool.Decides.{nat_tests}
-use Rattle.units.specs.declared.bounds.TheConstants.{METADATA_SECTORS}
-use Rattle.units.specs.declared.disk.Sector.{Sector}
+use Rattle.std.proofs.Common.{◌≡◌, ℕ, Bool, List, [], ◌∷◌, ◌++◌, Some, refl, sym, subst, ◌∙◌, ap, zero, suc, None, inr}
+use Rattle.std.specs.Prelude.{IfSome, slice_get}
 use Rattle.units.specs.Places.{anchor_place}
 use Rattle.device_log.specs.Log.{Call, Read}
 use Rattle.image_outside.specs.Told.{BankTold}
@@ -11,27 +8,11 @@ use Rattle.image_verdict.specs.declared.report.Report.TheVariants.{Unbuilt}
 use Rattle.image_verdict.specs.Endings.{Reports}
 use Rattle.image_verdict.specs.Reports.{Holds}
 use Rattle.units.specs.declared.disk.Serial.{Serial}
-use Rattle.image_verdict.specs.Images.{IsAnchorOn, IsFoundOn, StandIn, anchor_calls, anchor_reads, sizes_of_all}
+use Rattle.image_verdict.specs.Images.{IsAnchorOn, IsFoundOn, StandIn, anchor_reads}
 use Rattle.refused_commands.specs.Wrong.{FailsAnchor, TellsOfOne, read_of}
+use Rattle.refused_commands.proofs.Anchors.{the_read, one_call, one_read, two_not_one}
 use Rattle.refused_commands.proofs.First.{first_place}
 use Rattle.refused_commands.proofs.misread_anchors_are_refused.Goals as goal
-
-abbrev the_read : ℕ → Bool → Call
-the_read n went = record { disk = 0; what = Read (anchor_place n); went = went }
-
-is_large : (n : ℕ) → METADATA_SECTORS ≤ n → nat_lt n METADATA_SECTORS ≡ false
-is_large n large = grind (arith, nat_tests, large)
-
-one_call : (n : ℕ) (anchor : Option Sector) → METADATA_SECTORS ≤ n → anchor_calls 0 n anchor ≡ the_read n (is_some anchor) ∷ []
-one_call n anchor large = subst (λ b. (if b then [] else the_read n (is_some anchor) ∷ []) ≡ the_read n (is_some anchor) ∷ []) (sym (is_large n large)) refl
-
--- the anchor of the one image is read once
-one_read : (images : List ImageRead) (n : ℕ) → sizes_of_all images ≡ n ∷ [] → METADATA_SECTORS ≤ n → (went : Bool) × (anchor_reads images ≡ the_read n went ∷ [])
-one_read [] n sized large = absurd (cc sized)
-one_read (image ∷ []) n sized large =
-    let size : image.sectors ≡ n = cc sized in
-    (is_some image.anchor, subst (λ k. anchor_calls 0 k image.anchor ++ [] ≡ the_read n (is_some image.anchor) ∷ []) (sym size) (ap (λ calls. calls ++ []) (one_call n image.anchor large)))
-one_read (image ∷ other ∷ more) n sized large = absurd (cc sized)
 
 -- so this is the log that is told
 told_read : (n : ℕ) (log : List Call) (bank : BankTold) (lines : List ℕ) (status : ℕ) → TellsOfOne n log bank → Reports bank lines status → (went : Bool) × (log ≡ the_read n went ∷ [])
@@ -45,9 +26,6 @@ returns-clause-unread c n bank lines status tells reports =
     let read = told_read n [] bank lines status tells reports in
     let same : [] ≡ the_read n read.0 ∷ [] = read.1 in
     cc same
-
-two_not_one : (a b d : Call) → a ∷ b ∷ [] ≡ d ∷ [] → ⊥
-two_not_one a b d same = cc same
 
 pub returns-clause-twice : goal.returns-clause-twice
 returns-clause-twice c n bank lines status tells reports =

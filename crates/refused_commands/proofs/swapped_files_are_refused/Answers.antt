@@ -1,8 +1,7 @@
 use Rattle.std.proofs.Common.{◌≡◌, ◌≢◌, ℕ, List, [], ◌∷◌, ◌++◌, sym, subst, ◌∙◌, Option, inl, inr}
-use Rattle.std.specs.Option.{IsSomeAnd}
 use Rattle.std.proofs.lemmas.List.{append_cancel_left}
 use Rattle.image_outside.specs.Told.{BankTold, ShelfTold}
-use Rattle.image_words.specs.Words.{ImageWord, serials_named}
+use Rattle.image_words.specs.Words.{ImageWord}
 use Rattle.image_verdict.specs.Endings.{Reports}
 use Rattle.image_examine.specs.Endings.{Examines}
 use Rattle.image_create.specs.Creates.{CreatesBy}
@@ -11,7 +10,7 @@ use Rattle.image_outside.specs.Shelves.{IsUncalled}
 use Rattle.image_run.specs.Does.{OnImages}
 use Rattle.image_run.specs.Openings.{OpensAll, OpensNot, paths_named}
 use Rattle.image_run.specs.Requests.{NotWords, TooManyImages, Assemble, Examine, Create, Replay}
-use Rattle.refused_commands.specs.Wrong.{HoldsPair}
+use Rattle.refused_commands.proofs.Pairs.{opens_pair}
 use Rattle.refused_commands.proofs.swapped_files_are_refused.Goals as goal
 use Rattle.image_words.proofs.Asked.{first_same}
 
@@ -56,12 +55,6 @@ returns-clause-swapped c (Replay limit images) a b before after lines status is 
     not_all a b apart before.shelf after.shelf swapped images is IsUncalled stops.opened
 returns-clause-swapped c (Replay limit images) a b before after lines status is apart swapped (inr (inr done)) =
     not_all a b apart before.shelf after.shelf swapped images is (λ bank. ReplaysBy done.script limit bank lines status) done.opened
-
-opens_pair : (a b : ImageWord) (before after : ShelfTold) (bank : BankTold) (P : BankTold → Type 0) → HoldsPair a b before after bank → P bank → OpensAll (a ∷ b ∷ []) before after P
-opens_pair a b before after bank P holds so = record {
-  paths = holds.paths;
-  bank = subst (λ (h : Option BankTold). IsSomeAnd h (λ bank. (bank.serials ≡ serials_named (a ∷ b ∷ [])) × P bank)) (sym holds.held) (holds.named, so);
-}
 
 pub returns-clause-assembled : goal.returns-clause-assembled
 returns-clause-assembled c a b before after bank lines status holds same reports =
