@@ -1,6 +1,7 @@
 -- What contracts see of a bank over files. Source: this project's own.
-use Rattle.std.specs.Prelude.{◌≡◌, ◌≢◌, ◌≤◌, ◌<◌, ℕ, ◌*◌, ◌^◌, List, [], ◌∷◌, ◌++◌, length, All, AllPairs}
+use Rattle.std.specs.Prelude.{◌≡◌, ◌≢◌, ◌≤◌, ◌<◌, ℕ, ◌*◌, ◌^◌, List, [], ◌∷◌, ◌++◌, length, map, All, AllPairs}
 use Rattle.units.specs.declared.bounds.TheConstants.{MAX_DISKS, SECTOR_BYTES}
+use Rattle.units.specs.declared.disk.Sector.{Sector}
 use Rattle.units.specs.declared.disk.Serial.{Serial}
 
 -- each disk's serial, its sectors, and how often it failed
@@ -25,3 +26,7 @@ pub record IsFiles (files : ℕ) (serials : List Serial) (sizes faults : List �
   pub counted : length faults ≡ files
   pub distinct : AllPairs (λ a b. a ≢ b) serials
   pub offsets : All (λ n. n * SECTOR_BYTES < 2 ^ 64) sizes
+
+-- the bytes of each sector
+abbrev pub bytes_of : List Sector → List (List ℕ)
+bytes_of sectors = map (λ (s : Sector). s.0) sectors

@@ -23,7 +23,7 @@ mod history;
 mod memory;
 
 pub use disks::MemDisk;
-pub use files::{FileBank, FileBankFault};
+pub use files::{FileBank, FileBankFault, check_kind};
 pub use history::LogRoom;
 pub use memory::{BankFault, FailAt, MemBank};
 use units::{DiskNo, MAX_DISKS, MAX_WRITE_SECTORS, Sector, Serial};
