@@ -96,6 +96,13 @@ mod tests {
         Ok(number)
     }
 
+    /// Whether a command ends since it can't open its image B.
+    fn has_no_b(rt: &HostRuntime, words: &[&str], script: &str) -> Result<bool, AllocError> {
+        let mut lines = Vec::new(rt.alloc());
+        let status = run(rt, words, script, &mut OutSink::new(&mut lines))?;
+        Ok(status == 7 && lines.as_slice() == b"open B\n".as_slice())
+    }
+
     /// A writer that takes all bytes, and can't bring them on.
     #[derive(Drop)]
     struct Unflushed;
@@ -149,20 +156,28 @@ mod tests {
         assert_eq!(rt; lines.as_slice(), told.as_slice());
         assert_eq!(rt; run(&rt, &both, "", &mut OutSink::new(Unflushed))?, 6);
         fs::remove_file(&rt, "b.img")?;
-        assert_eq!(rt;
-            run(&rt, &both, "", &mut OutSink::new(Vec::new(rt.alloc())))?,
-            7
-        );
+        for missing in ["B=b.img", "B=.", "B=/dev/null"] {
+            assert!(rt; has_no_b(&rt, &["assemble", "A=a.img", missing], "")?);
+        }
         fs::remove_file(&rt, "a.img")?;
         Ok(())
     }
 
+    /// A replay runs once no other open of an image has a lock on it, also none of the same command.
     #[test]
     fn a_write_is_read_back_from_two_files(rt: HostRuntime) -> Result<(), Fail> {
         write_image(&rt, "c.img")?;
         write_image(&rt, "d.img")?;
         let words = ["replay", "A=c.img", "B=d.img"];
         let script = "client 0 write 0 5 1122334455667788\nclient 0 read 0 5\n";
+        let unchanged = fs::read(&rt, "d.img")?;
+        let reader = File::open(&rt, "d.img")?;
+        reader.lock_shared()?;
+        assert!(rt; has_no_b(&rt, &words, script)?);
+        drop(reader);
+        let twice = ["replay", "A=c.img", "B=./c.img"];
+        assert!(rt; has_no_b(&rt, &twice, script)?);
+        assert!(rt; fs::read(&rt, "c.img")? == unchanged && fs::read(&rt, "d.img")? == unchanged);
         let mut lines = Vec::new(rt.alloc());
         assert_eq!(rt; run(&rt, &words, script, &mut OutSink::new(&mut lines))?, 0);
         let told =

@@ -6,20 +6,31 @@ ghost use Rattle.image_outside.specs.Shelves.{HasOneMore};
 ghost use Rattle.imsm_tool.specs.Adapters.{files_told};
 
 use image_run::{Shelf, ShelfFault};
-use member_bank::{Bank, FileBank, FileBankFault};
+use member_bank::{Bank, FileBank, FileBankFault, check_kind};
 use std::alloc::Global;
 use std::fs::{File, OpenOptions};
-use std::io;
 use std::io::ErrorKind;
 use std::marker::Model;
 use std::rt::Files;
+use std::{fs, io};
 use units::{DiskNo, MAX_DISKS, Serial};
 
-/// Opens an image for reading and writing, or, where writing isn't allowed, for reading.
+/// Opens an image for reading and writing, or, where writing isn't allowed, for reading, and locks it: for this open
+/// alone where it may be written, else beside others that only read. It never waits: not for a lock, nor at a pipe, as
+/// what can be no disk isn't opened.
 fn open_image<R: Files<File = File>>(rt: &R, path: &str) -> io::Result<File> {
+    check_kind(&fs::metadata(rt, path)?)?;
     match OpenOptions::new().read(true).write(true).open(rt, path) {
-        Err(error) if is_refusal(&error) => File::open(rt, path),
-        opened => opened,
+        Ok(image) => {
+            image.try_lock()?;
+            Ok(image)
+        }
+        Err(error) if is_refusal(&error) => {
+            let image = File::open(rt, path)?;
+            image.try_lock_shared()?;
+            Ok(image)
+        }
+        Err(error) => Err(error),
     }
 }
 
@@ -54,7 +65,8 @@ fn fault_of(error: io::Error) -> ShelfFault
     }
 }
 
-/// An opened file as the next disk of a bank, and its number. After a fault the bank is as it was.
+/// An opened file as the next disk of a bank, and its number. One that is a disk of the bank already is a fault, as
+/// two that only read have a lock both. After a fault the bank is as it was.
 fn add(bank: &mut FileBank, serial: Serial, image: io::Result<File>) -> Result<DiskNo, ShelfFault>
     requires few { length bank.old.serials < MAX_DISKS }
     requires distinct { All (λ s. s ≢ serial) bank.old.serials }
@@ -65,6 +77,9 @@ fn add(bank: &mut FileBank, serial: Serial, image: io::Result<File>) -> Result<D
 {
     let number = DiskNo(bank.disks());
     let image = image.map_err(fault_of)?;
+    if bank.has(&image).map_err(fault_of)? {
+        return Err(ShelfFault::Failed);
+    }
     match bank.add(serial, image) {
         Ok(()) => Ok(number),
         Err(FileBankFault::Memory) => Err(ShelfFault::Memory),
@@ -83,8 +98,8 @@ fn new_path(alloc: Global, paths: &mut Vec<String>, path: &str) -> Result<String
     String::from_str(alloc, path).map_err(|_| ShelfFault::Memory)
 }
 
-/// A shelf whose disks are files, opened by their paths. A file that can't be written is opened all the same: a write
-/// to it is then a fault of that disk.
+/// A shelf whose disks are files, opened by their paths and locked as long as they are open. A file that can't be
+/// written is opened all the same: a write to it is then a fault of that disk. One that can't be locked isn't opened.
 #[derive(Drop)]
 pub struct FileShelf<'a, R> {
     rt: &'a R,
