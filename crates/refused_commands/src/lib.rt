@@ -88,10 +88,11 @@ pub fn forged_ends_are_refused()
 {}
 
 /// Want of memory is refused behind a file that isn't the first image's, behind a source that was read while no image
-/// was open, and behind an anchor that was read twice. It is admitted at any time before: once both images are open.
+/// was open, and behind an anchor that was read twice. Where both images are open and no call was made, it is admitted.
 pub fn careless_wants_of_memory_are_refused()
-    ensures elsewhere { (request : Request) (a : ImageWord) (rest : List ImageWord) (path : List ℕ) (before after : Outside)
-        → images_of request ≡ a ∷ rest → path ≢ a.file → after.shelf.paths ≡ before.shelf.paths ++ path ∷ []
+    ensures elsewhere { (request : Request) (a : ImageWord) (rest : List ImageWord) (path : List ℕ)
+        → (before after : Outside) → images_of request ≡ a ∷ rest → path ≢ a.file
+        → after.shelf.paths ≡ before.shelf.paths ++ path ∷ []
         → Carries request before after 9 → ⊥ }
     ensures greedy { (limit : ℕ) (a : ImageWord) (rest : List ImageWord) (before after : Outside)
         → after.source ≢ before.source → after.shelf.paths ≡ before.shelf.paths
