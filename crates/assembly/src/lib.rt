@@ -1,16 +1,14 @@
-//! The verdict on the disks of a container that are there: whether it is refused, waits for disks, or is opened, and
-//! what is said of its volumes and its disks then.
+//! The assembly of a container on a bank: its disks are looked at, and the verdict on them is given.
 //!
-//! It owes the verdict of the definitions, where each block that is given as whole is; memory is its only fault. It
-//! looks at no disk: `image_assembly` stands on it and reads them.
+//! It owes that all disks are looked at, each once and in the order of their numbers, and nothing else is done; that each
+//! is seen as it stood where the bank tells that; and the verdict of `container` on what was seen. Memory is its only
+//! fault. No command stands on it yet: `assemble` gives the report of `image_verdict`.
 #![tactic(auto)]
 
-mod containers;
-mod judging;
-mod opening;
-mod seen;
-mod verdict;
+mod assembling;
+mod seeing;
+#[cfg(test)]
+mod tests;
 
-pub use judging::judge;
-pub use seen::{Seen, SeenAs};
-pub use verdict::{Assembled, AssemblyFault, Verdict};
+pub use assembling::assemble;
+pub use seeing::see;

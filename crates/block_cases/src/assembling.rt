@@ -1,10 +1,11 @@
 //! Verdicts on a mirror of two disks of 4,096 sectors, A and B.
 ghost use Rattle.std.specs.Prelude.{IfOk};
-ghost use Rattle.assembly.specs.Verdicts.{IsSound};
+ghost use Rattle.container.specs.Seen.{IsSound};
 
 use crate::mirror::serial;
-use assembly::{Assembled, AssemblyFault, Seen, SeenAs, Verdict, judge};
-use disk_roles::{DiskRole, Lack, Missing};
+use container::{
+    AssembleFault, DiskRole, Lack, Missing, Opening, Seen, SeenAs, Verdict, VolumeVerdict, judge,
+};
 use generation_pick::PickFault;
 use imsm_base::{get_u32, put_u32};
 use imsm_buffer::MpbBuf;
@@ -14,7 +15,6 @@ use std::alloc::Global;
 use std::process::Abort;
 use std::test::Fail;
 use units::DiskNo;
-use volume_verdict::VolumeVerdict;
 
 type Bytes = [u8; 480];
 
@@ -83,9 +83,9 @@ fn blank(disk: u8, letter: u8) -> Seen
     }
 }
 
-fn opened(rt: &impl Abort, verdict: Result<Verdict, AssemblyFault>) -> Assembled {
+fn opened(rt: &impl Abort, verdict: Result<Verdict, AssembleFault>) -> Opening {
     match verdict {
-        Ok(Verdict::Ready(assembled)) => assembled,
+        Ok(Verdict::Ready(opening)) => opening,
         _ => panic!(rt; "not opened"),
     }
 }
@@ -101,7 +101,7 @@ fn one_of(rt: &impl Abort, verdict: &Verdict) -> Missing {
 }
 
 /// The one disk that is waited for.
-fn waited(rt: &impl Abort, verdict: Result<Verdict, AssemblyFault>) -> Missing {
+fn waited(rt: &impl Abort, verdict: Result<Verdict, AssembleFault>) -> Missing {
     match verdict {
         Ok(verdict) => one_of(rt, &verdict),
         Err(_) => panic!(rt; "memory"),
@@ -118,13 +118,13 @@ fn a_mirror_is_opened_by_its_newest_block(rt: HostRuntime) -> Result<(), Fail> {
         whole(&rt, alloc, 3, b'B', 4096, &new)?,
         whole(&rt, alloc, 5, b'A', 4096, &old)?,
     ];
-    let assembled = opened(&rt, judge(alloc, &seen));
-    assert_eq!(rt; assembled.book.bytes(), new.as_slice());
-    assert_eq!(rt; (assembled.family, assembled.generation), (7, 2));
+    let opening = opened(&rt, judge(alloc, &seen, false));
+    assert_eq!(rt; opening.book.bytes(), new.as_slice());
+    assert_eq!(rt; (opening.family, opening.generation), (7, 2));
     let volumes = [VolumeVerdict::Started(None)];
-    assert_eq!(rt; assembled.volumes.as_slice(), volumes.as_slice());
+    assert_eq!(rt; opening.volumes.as_slice(), volumes.as_slice());
     let roles = [DiskRole::Blank, DiskRole::Member(1), DiskRole::Member(0)];
-    assert_eq!(rt; assembled.disks.as_slice(), roles.as_slice());
+    assert_eq!(rt; opening.disks.as_slice(), roles.as_slice());
     Ok(())
 }
 
@@ -133,13 +133,13 @@ fn an_expected_disk_is_waited_for(rt: HostRuntime) -> Result<(), Fail> {
     let alloc = rt.alloc();
     let block = mirror(7, 1);
     let alone = [whole(&rt, alloc, 0, b'A', 4096, &block)?];
-    let absent = waited(&rt, judge(alloc, &alone));
+    let absent = waited(&rt, judge(alloc, &alone, false));
     assert_eq!(rt; (absent.serial, absent.cause), (serial(b'B'), Lack::Absent));
     let small = [
         whole(&rt, alloc, 0, b'A', 4096, &block)?,
         whole(&rt, alloc, 1, b'B', 2000, &block)?,
     ];
-    let torn = waited(&rt, judge(alloc, &small));
+    let torn = waited(&rt, judge(alloc, &small, false));
     assert_eq!(rt; torn.cause, Lack::Torn(StoreFault::Small(4096, 2000)));
     Ok(())
 }
@@ -148,7 +148,7 @@ fn an_expected_disk_is_waited_for(rt: HostRuntime) -> Result<(), Fail> {
 fn what_is_no_one_container_is_refused(rt: HostRuntime) -> Result<(), Fail> {
     let alloc = rt.alloc();
     let none = [blank(0, b'A')];
-    match judge(alloc, &none) {
+    match judge(alloc, &none, false) {
         Ok(Verdict::Refused(fault)) => assert_eq!(rt; fault, PickFault::None),
         _ => panic!(rt; "none"),
     }
@@ -156,7 +156,7 @@ fn what_is_no_one_container_is_refused(rt: HostRuntime) -> Result<(), Fail> {
         whole(&rt, alloc, 0, b'A', 4096, &mirror(7, 1))?,
         whole(&rt, alloc, 1, b'B', 4096, &mirror(8, 1))?,
     ];
-    match judge(alloc, &two) {
+    match judge(alloc, &two, false) {
         Ok(Verdict::Refused(fault)) => assert_eq!(rt; fault, PickFault::Families(7, 8)),
         _ => panic!(rt; "families"),
     }
@@ -165,7 +165,7 @@ fn what_is_no_one_container_is_refused(rt: HostRuntime) -> Result<(), Fail> {
         whole(&rt, alloc, 0, b'A', 4096, &last)?,
         whole(&rt, alloc, 1, b'B', 4096, &last)?,
     ];
-    match judge(alloc, &ended) {
+    match judge(alloc, &ended, false) {
         Ok(Verdict::GenerationEnd { generation, .. }) => {
             assert_eq!(rt; generation, 0xFF00_0000);
         }
