@@ -1,0 +1,5 @@
+pub mod Disks
+pub mod Serials
+pub mod Checks
+pub mod Meaning
+pub mod Stopped
