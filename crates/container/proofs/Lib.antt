@@ -4,3 +4,8 @@ pub mod Records
 pub mod Ready
 pub mod Views
 pub mod Blocks
+pub mod Alike
+pub mod OneMissing
+pub mod Moved
+pub mod OneRole
+pub mod OneVerdict

@@ -1,6 +1,7 @@
 -- What was seen of the disks of a container that are there. Source: this project's own.
-use Rattle.std.specs.Prelude.{◌≡◌, ℕ, ◌<◌, ◌==◌, if◌then◌else◌, List, [], ◌∷◌, map, Contains, ⊤}
-use Rattle.std.specs.List.{AllByRecursion, flat_map}
+use Rattle.std.specs.Prelude.{◌≡◌, ◌≢◌, ℕ, ◌<◌, ◌==◌, if◌then◌else◌, List, [], ◌∷◌, map, Contains, ⊤}
+use Rattle.std.specs.List.{AllByRecursion, AllPairs, flat_map}
+use Rattle.units.specs.declared.disk.Serial.{Serial}
 use Rattle.imsm_base.specs.Layout.{volume_count_of}
 use Rattle.imsm_base.specs.Whole.{IsWholeBlock}
 use Rattle.imsm_codec.specs.Mpb.{block_bytes}
@@ -37,6 +38,10 @@ pub record HasDisk (seen : List Seen) (serial : List ℕ) (P : Seen → Type 0) 
   pub there : Contains seen disk
   pub named : disk.serial.0 ≡ serial
   pub holds : P disk
+
+-- no two have one serial
+abbrev pub HaveOwnSerials : List Seen → Type 0
+HaveOwnSerials seen = AllPairs (λ (a b : Serial). a ≢ b) (map (λ (s : Seen). s.serial) seen)
 
 -- THE BLOCKS OF CONTAINERS
 

@@ -121,6 +121,7 @@ fn judge_seen(alloc: Global, seen: &[Seen], run: bool) -> Result<Verdict, AllocE
 pub fn judge(alloc: Global, seen: &[Seen], run: bool) -> Result<Verdict, AssembleFault>
     requires sound { AreSound seen.now }
     requires few { length seen.now ≤ 16 }
+    // By `a_container_has_one_verdict` it is the only one, where no two disks have one serial.
     ensures { IfOk result (λ verdict. IsVerdict seen.now run verdict) }
 {
     judge_seen(alloc, seen, run).map_err(|_| AssembleFault::Memory)
