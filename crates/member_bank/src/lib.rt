@@ -1,9 +1,9 @@
-//! Devices by what was asked of them: the trait `Bank`, a bank in memory whose calls fail as a list says, and a bank
-//! over files.
+//! Devices by what was asked of them: the trait `Bank`, a bank in memory whose calls fail as a list says, one on which
+//! no call fails, and a bank over files.
 //!
 //! Every bank owes that each call is logged where the log is told, that a read gives what stands there by that log,
-//! and that a call fails only where the disk's count of faults rose or stands at its last value. The bank in memory
-//! owes just what it holds and tells; what files hold no clause says. No device call takes memory.
+//! and that a call fails only where the disk's count of faults rose or stands at its last value. The banks in
+//! memory owe just what they hold and tell; what files hold no clause says. No device call takes memory.
 //!
 //! Whatever reads or writes disks is generic over `Bank`: `mpb_store`, `stage`, and the commands above.
 #![tactic(auto)]
@@ -18,11 +18,13 @@ ghost use Rattle.member_bank.specs.Faults.{HasCause};
 
 mod counts;
 mod disks;
+mod fail_free;
 mod files;
 mod history;
 mod memory;
 
 pub use disks::MemDisk;
+pub use fail_free::FailFree;
 pub use files::{FileBank, FileBankFault, check_kind};
 pub use history::LogRoom;
 pub use memory::{BankFault, FailAt, MemBank};
