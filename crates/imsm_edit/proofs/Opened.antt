@@ -1,6 +1,6 @@
 -- A volume whose pass is opened: its slots stay, and the pass is of the type that is written.
-use Rattle.std.proofs.Common.{◌≡◌, ℕ, ◌<◌, ◌/◌, ◌%◌, ◌^◌, ◌==◌, ◌||◌, not, Bool, true, false, if◌then◌else◌, List, [], ◌∷◌, length, map, set, Some, None, refl, sym, ◌∙◌, ap, subst, arith}
-use Rattle.std.proofs.lemmas.List.{get_or-set_other, get_or-set_same, length-set}
+use Rattle.std.proofs.Common.{◌≡◌, ℕ, ◌<◌, ◌/◌, ◌%◌, ◌^◌, ◌==◌, ◌||◌, not, Bool, true, false, if◌then◌else◌, List, [], length, map, set, Some, None, refl, sym, ◌∙◌, ap, subst, arith}
+use Rattle.std.proofs.lemmas.List.{get_or-set_other, get_or-set_same}
 use Rattle.byteorder.specs.Endian.{little_bytes}
 use Rattle.imsm_base.specs.Fields.{Part, number}
 use Rattle.imsm_base.specs.Layout.{Block, Volume, volume_count_of, map_count_of, migration_state_of, migration_type_of}
@@ -13,16 +13,13 @@ use Rattle.imsm_base.proofs.At.{volume_in-block}
 use Rattle.imsm_codec.proofs.Found.{volumes_counted}
 use Rattle.imsm_codec.proofs.Mirror.{one_map, out_by_one}
 use Rattle.imsm_view.specs.declared.volume.Volume.{Volume as View}
-use Rattle.imsm_view.specs.Views.{IsVolume, slot_view}
+use Rattle.imsm_view.specs.Views.{slot_view}
 use Rattle.imsm_view.proofs.Members.{marks}
-use Rattle.imsm_edit.specs.Meanings.{Tells, with_migration, with_pass}
+use Rattle.imsm_edit.specs.Meanings.{Tells, with_migration}
 use Rattle.imsm_edit.proofs.Changes.{volume_changed, block_as}
+use Rattle.imsm_edit.proofs.Marked.{map_as}
 use Rattle.imsm_buffer.proofs.Replaced.{unchanged_at}
 use Rattle.imsm_buffer.proofs.TableEdits.{number-one}
-
-map_as : {X Y : Type 0} (f g : X → Y) (xs : List X) → ((x : X) → f x ≡ g x) → map f xs ≡ map g xs
-map_as f g [] same = refl
-map_as f g (x ∷ xs) same = ap (λ (y : _). y ∷ map f xs) (same x) ∙ ap (λ (ys : List _). g x ∷ ys) (map_as f g xs same)
 
 or_twice : (a : Bool) → (a || (a || false)) ≡ (a || false)
 or_twice true = refl
@@ -46,13 +43,12 @@ slots_if false v count e = copied v count e
 pub slots_stay : (v : Volume) → length v.maps ≡ map_count_of v → members (with_migration v) ≡ members v
 slots_stay v count = slots_if (has_pass v) v count refl
 
-long_if : (p : Bool) (v : Volume) → length v.state ≡ 10 → length (opened_if p v).state ≡ 10
-long_if true v long = long
-long_if false v long = length-set v.state 2 (little_bytes 1 1) ∙ long
-
 open_if : (p : Bool) (v : Volume) → length v.state ≡ 10 → has_pass v ≡ p → has_pass (opened_if p v) ≡ true
 open_if true v long e = e
 open_if false v long e = ap (λ (f : List ℕ). not (number f == 0)) (get_or-set_same v.state 2 (little_bytes 1 1) [] (omega arith))
+
+pub opened : (v : Volume) → length v.state ≡ 10 → has_pass (with_migration v) ≡ true
+opened v long = open_if (has_pass v) v long refl
 
 -- the state and the type of a pass that is written
 written_state : (kind unit : ℕ) (v : Volume) → migration_state_of (volume_with_pass kind unit v) ≡ migration_state_of v
@@ -72,22 +68,21 @@ written_type kind unit v long small =
     ∙ get_or-set_other typed 1 3 (little_bytes 4 0x494d0001) [] (λ e. omega arith) ∙ get_or-set_same v.state 3 (little_bytes 1 kind) [] (omega arith))
     ∙ number-one kind small
 
-pub pass_written : (kind : ℕ) (v : Volume) → length v.state ≡ 10 → kind < 256 → pass_of (with_pass kind v) ≡ Some kind
-pass_written kind v long small =
-    let w : Volume = with_migration v in
-    ap (λ (n : ℕ). if not (n == 0) then Some (migration_type_of (volume_with_pass kind 0 w)) else None) (written_state kind 0 w)
-    ∙ ap (λ (p : Bool). if p then Some (migration_type_of (volume_with_pass kind 0 w)) else None) (open_if (has_pass v) v long refl)
-    ∙ ap (λ (t : ℕ). Some t) (written_type kind 0 w (long_if (has_pass v) v long) small)
+pub pass_written : (kind unit : ℕ) (v : Volume) → length v.state ≡ 10 → has_pass v ≡ true → kind < 256 → pass_of (volume_with_pass kind unit v) ≡ Some kind
+pass_written kind unit v long open_one small =
+    ap (λ (n : ℕ). if not (n == 0) then Some (migration_type_of (volume_with_pass kind unit v)) else None) (written_state kind unit v)
+    ∙ ap (λ (p : Bool). if p then Some (migration_type_of (volume_with_pass kind unit v)) else None) open_one
+    ∙ ap (λ (t : ℕ). Some t) (written_type kind unit v long small)
 
 -- the view with the new pass tells of the volume
-pub told_pass : (b mid : Block) (k kind : ℕ) (view : View) → IsVolume b (volume_at k b) view → k < length b.volumes → mid ≡ with_volume k (with_pass kind) b →
-    length (volume_at k b).maps ≡ map_count_of (volume_at k b) → length (volume_at k b).state ≡ 10 → kind < 256 → Tells mid (volume_at k mid) (record view { pass = Some kind })
-told_pass b mid k kind view is below made count long small =
+pub told_pass : (b mid : Block) (k kind unit : ℕ) (view : View) → view.slots.items ≡ map (slot_view b) (members (volume_at k b)) → k < length b.volumes → mid ≡ with_volume k (volume_with_pass kind unit) b →
+    length (volume_at k b).state ≡ 10 → has_pass (volume_at k b) ≡ true → kind < 256 → Tells mid (volume_at k mid) (record view { pass = Some kind })
+told_pass b mid k kind unit view slots below made long open_one small =
     let v : Volume = volume_at k b in
     subst (λ (x : Block). Tells x (volume_at k x) (record view { pass = Some kind })) (sym made)
     (record {
-      pass = sym (pass_written kind v long small) ∙ ap pass_of (sym (volume_changed b k (with_pass kind) below));
-      slots = is.slots ∙ ap (map (slot_view b)) (sym (slots_stay v count) ∙ ap members (sym (volume_changed b k (with_pass kind) below)));
+      pass = sym (pass_written kind unit v long open_one small) ∙ ap pass_of (sym (volume_changed b k (volume_with_pass kind unit) below));
+      slots = slots ∙ ap (map (slot_view b)) (ap members (sym (volume_changed b k (volume_with_pass kind unit) below)));
     })
 
 -- a change that leaves the volume leaves the block

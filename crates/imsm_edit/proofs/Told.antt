@@ -20,20 +20,21 @@ use Rattle.imsm_edit.specs.Meanings.{has_out, state_now, state_before, seen_now,
 use Rattle.imsm_edit.proofs.Changes.{volume_changed, block_twice, block_as}
 use Rattle.imsm_buffer.proofs.TableEdits.{number-one}
 
-open_init : (p : Bool) (t : ℕ) → option_map_or is_init (if p then Some t else None) false ≡ (p && is_init t)
-open_init true t = refl
-open_init false t = refl
+-- a test of the open pass's type, and one of the slots
+open_test : (f : ℕ → Bool) (p : Bool) (t : ℕ) → option_map_or f (if p then Some t else None) false ≡ (p && f t)
+open_test f true t = refl
+open_test f false t = refl
 
-init_is : (b : Block) (v : Volume) (view : View) → Tells b v view → option_map_or is_init view.pass false ≡ (has_pass v && is_init (migration_type_of v))
-init_is b v view told = ap (λ (o : Option ℕ). option_map_or is_init o false) told.pass ∙ open_init (has_pass v) (migration_type_of v)
+pub type_is : (f : ℕ → Bool) (b : Block) (v : Volume) (view : View) → Tells b v view → option_map_or f view.pass false ≡ (has_pass v && f (migration_type_of v))
+type_is f b v view told = ap (λ (o : Option ℕ). option_map_or f o false) told.pass ∙ open_test f (has_pass v) (migration_type_of v)
 
-slots_are : (b : Block) (v : Volume) (view : View) (p : SlotView → Bool) → Tells b v view → list_any p view.slots.items ≡ list_any (λ m. p (slot_view b m)) (members v)
+pub slots_are : (b : Block) (v : Volume) (view : View) (p : SlotView → Bool) → Tells b v view → list_any p view.slots.items ≡ list_any (λ m. p (slot_view b m)) (members v)
 slots_are b v view p told = ap (list_any p) told.slots ∙ list_any-map p (slot_view b) (members v)
 
 pub now_is : (b : Block) (v : Volume) (view : View) (broken : Bool) → Tells b v view → seen_now broken view ≡ state_now broken v
 now_is b v view broken told =
     ap (λ (t : Bool). if broken then 3 else (if t then 2 else (if option_map_or is_init view.pass false then 1 else 0))) (slots_are b v view (λ s. s.out) told)
-    ∙ ap (λ (t : Bool). if broken then 3 else (if has_out v then 2 else (if t then 1 else 0))) (init_is b v view told)
+    ∙ ap (λ (t : Bool). if broken then 3 else (if has_out v then 2 else (if t then 1 else 0))) (type_is is_init b v view told)
 
 pub before_is : (b : Block) (v : Volume) (view : View) (broken : Bool) → Tells b v view → seen_before broken view ≡ state_before b broken v
 before_is b v view broken told =
@@ -55,7 +56,7 @@ pass_closed b v view told none = closed_from (has_pass v) (migration_type_of v) 
     closed_from false t e = refl
 
 -- the states are set: in one map, or in two
-abbrev states_if : Bool → ℕ → ℕ → Volume → Volume
+abbrev pub states_if : Bool → ℕ → ℕ → Volume → Volume
 states_if pass now before v =
     if pass then with_map 1 (map_with_state now) (with_map 0 (map_with_state before) v) else with_map 0 (map_with_state now) v
 
@@ -86,6 +87,26 @@ told_by b mid k f view is below made pass same =
       pass = is.pass ∙ sym pass ∙ ap pass_of (sym (volume_changed b k f below));
       slots = is.slots ∙ ap (map (slot_view b)) (sym same ∙ ap members (sym (volume_changed b k f below)));
     })
+
+-- a view tells of its own volume
+pub told_of : (b : Block) (v : Volume) (view : View) → IsVolume b v view → Tells b v view
+told_of b v view is = record { pass = is.pass; slots = is.slots }
+
+-- the slots and the pass that are told of a volume which is edited
+pub slots_told : (b c : Block) (k : ℕ) (f : Volume → Volume) (view : View) → IsVolume b (volume_at k b) view → k < length b.volumes → c ≡ with_volume k f b →
+    members (f (volume_at k b)) ≡ members (volume_at k b) → view.slots.items ≡ map (slot_view c) (members (volume_at k c))
+slots_told b c k f view is below made same =
+    subst (λ (x : Block). view.slots.items ≡ map (slot_view x) (members (volume_at k x))) (sym made)
+    (is.slots ∙ ap (map (slot_view b)) (sym same ∙ ap members (sym (volume_changed b k f below))))
+
+pub open_told : (b c : Block) (k : ℕ) (f : Volume → Volume) → k < length b.volumes → c ≡ with_volume k f b → has_pass (f (volume_at k b)) ≡ true → has_pass (volume_at k c) ≡ true
+open_told b c k f below made is = ap (λ (x : Block). has_pass (volume_at k x)) made ∙ ap has_pass (volume_changed b k f below) ∙ is
+
+-- an edit behind another one
+pub edited_after : (b c new : Block) (k : ℕ) (broken : Bool) (f g h : Volume → Volume) → c ≡ with_volume k f b → new ≡ edited c k broken g → g (f (volume_at k b)) ≡ h (volume_at k b) → new ≡ edited b k broken h
+edited_after b c new k broken f g h first second same =
+    second ∙ ap (λ (x : Block). edited x k broken g) first
+    ∙ block_twice b k (λ v. with_states b broken (g v)) f (λ v. with_states b broken (h v)) (ap (with_states b broken) same)
 
 pub edit_done : (b mid new : Block) (k : ℕ) (broken : Bool) (f : Volume → Volume) → mid ≡ with_volume k f b → new ≡ with_volume k (with_states mid broken) mid → new ≡ edited b k broken f
 edit_done b mid new k broken f made set =

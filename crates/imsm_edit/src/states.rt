@@ -1,12 +1,12 @@
 //! The states of a volume's maps.
-ghost use Rattle.std.specs.Prelude.{◌≡◌, ◌<◌, ◌&&◌, not, false};
+ghost use Rattle.std.specs.Prelude.{◌≡◌, ◌<◌, ◌&&◌, not, false, if◌then◌else◌};
 ghost use Rattle.std.specs.Option.{option_map_or};
 ghost use Rattle.std.specs.List.{list_any};
 ghost use Rattle.imsm_base.specs.Layout.{volume_count_of};
 ghost use Rattle.imsm_base.specs.EditsOfTables.{with_volume};
 ghost use Rattle.imsm_codec.specs.Mpb.{volume_at};
 ghost use Rattle.imsm_buffer.specs.Buffer.{parts_of};
-ghost use Rattle.imsm_edit.specs.Meanings.{is_init, seen_now, seen_before, with_states, Tells};
+ghost use Rattle.imsm_edit.specs.Meanings.{is_init, seen_now, seen_before, seen_resync, with_states, Tells};
 
 use imsm_buffer::MpbBuf;
 use imsm_view::{SlotView, Volume};
@@ -23,6 +23,13 @@ fn is_any_lost(slots: &[SlotView]) -> bool
     ensures { result ≡ list_any (λ s. s.out && not s.expected) slots.now }
 {
     slots.iter().any(|slot| slot.out && !slot.expected)
+}
+
+/// Whether a slot is out of sync that a pass may bring back.
+pub(crate) fn is_any_to_rebuild(slots: &[SlotView]) -> bool
+    ensures { result ≡ list_any (λ s. s.out && s.expected) slots.now }
+{
+    slots.iter().any(|slot| slot.out && slot.expected)
 }
 
 fn is_init(pass: Option<u8>) -> bool
@@ -59,6 +66,30 @@ fn state_before(view: &Volume, broken: bool) -> u8
         2
     } else {
         0
+    }
+}
+
+/// The state of a volume without a pass.
+pub(crate) fn state_alone(broken: bool, out: bool) -> u8
+    ensures { result ≡ (if broken then 3 else (if out then 2 else 0)) }
+{
+    if broken {
+        3
+    } else if out {
+        2
+    } else {
+        0
+    }
+}
+
+/// The type of the pass that makes the members of an unfinished volume agree: 0 init, 5 repair.
+pub(crate) fn resync_type(view: &Volume) -> u8
+    ensures { result ≡ seen_resync view.now }
+{
+    if view.state == 1 || is_init(view.pass) {
+        0
+    } else {
+        5
     }
 }
 

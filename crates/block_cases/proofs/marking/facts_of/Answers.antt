@@ -29,4 +29,5 @@ returns c =
         supported = λ k below told. first (λ (n : ℕ). volume_fault b n (volume_at n b) ≡ None) k (omega arith) fine;
       },
       ap (λ (ts : List Bool). is_told ts 0) (c.push.ensures.items ∙ ap (λ (ts : List Bool). ts ++ true ∷ []) c.new.ensures),
+      omega arith,
     )
