@@ -1,6 +1,6 @@
 //! Rows of a disk in memory.
 use crate::row::Row;
-use member_bank::{FailAt, LogRoom, MemBank, MemDisk};
+use member_bank::{FailAt, FailFree, LogRoom, MemBank, MemDisk};
 use std::alloc::{AllocError, Global};
 use std::io;
 use units::{DiskNo, SECTOR_BYTES, Sector};
@@ -86,6 +86,16 @@ pub(crate) fn hold_fail(row: &mut Row<'_>, setting: &mut Setting) -> io::Result<
 pub(crate) fn bank_of(alloc: Global, setting: &mut Setting) -> Result<MemBank, AllocError> {
     let Setting { disk, fails } = std::mem::replace(setting, Setting::new(alloc));
     let mut bank = MemBank::new(alloc, Vec::new(alloc), fails, ROOM).map_err(|_| AllocError)?;
+    if let Some(disk) = disk {
+        bank.add(alloc, disk).map_err(|_| AllocError)?;
+    }
+    Ok(bank)
+}
+
+/// The same, on which no call fails.
+pub(crate) fn free_of(alloc: Global, setting: &mut Setting) -> Result<FailFree, AllocError> {
+    let Setting { disk, .. } = std::mem::replace(setting, Setting::new(alloc));
+    let mut bank = FailFree::new(alloc, Vec::new(alloc), ROOM).map_err(|_| AllocError)?;
     if let Some(disk) = disk {
         bank.add(alloc, disk).map_err(|_| AllocError)?;
     }

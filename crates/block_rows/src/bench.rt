@@ -1,7 +1,7 @@
 //! What rows work on.
 use crate::banks::{Setting, hold_disk, hold_fail};
 use crate::bytes::{print_changes, set_base, set_block};
-use crate::calls::{call_disk, call_file};
+use crate::calls::{call_disk, call_file, call_free};
 use crate::editing::{edit_book, new_book, open_book};
 use crate::making::make_container;
 use crate::reading::{check_front, examine_block, read_block, tell_form, view_volume};
@@ -41,7 +41,9 @@ impl Bench {
         match word {
             "base" | "block" | "take" | "anchor" | "changes" => self.answer_bytes(rt, word, row),
             "edit" | "new" | "set" => self.answer_book(rt, word, row),
-            "disk" | "fail" | "found" | "write" | "calls" => self.answer_disk(rt, word, row),
+            "disk" | "fail" | "found" | "write" | "calls" | "free" => self.answer_disk(
+                rt, word, row,
+            ),
             "check" => check_front(rt, row, &self.bytes),
             "read" => read_block(rt, &self.bytes),
             "form" => tell_form(rt, row, &self.bytes),
@@ -99,6 +101,7 @@ impl Bench {
             "fail" => hold_fail(row, &mut self.setting),
             "found" => find_block(rt, &mut self.setting, &self.bytes),
             "write" => write_block(rt, &mut self.setting, &self.bytes),
+            "free" => call_free(rt, row, &mut self.setting),
             _ => call_disk(rt, row, &mut self.setting),
         }
     }

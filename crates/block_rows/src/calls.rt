@@ -1,7 +1,7 @@
 //! Rows of device calls, on disks in memory and on a file.
-use crate::banks::{FIRST, Setting, bank_of};
+use crate::banks::{FIRST, Setting, bank_of, free_of};
 use crate::row::Row;
-use member_bank::{Bank, FileBank};
+use member_bank::{Bank, FileBank, MemDisk};
 use std::fs::{File, OpenOptions};
 use std::{fs, io};
 use units::{DiskNo, Sector, Serial};
@@ -71,16 +71,9 @@ fn make_calls<B: Bank>(rt: &HostRuntime, bank: &mut B, row: &Row<'_>) -> io::Res
     Ok(())
 }
 
-/// Makes the calls of a row on the disk that is held, and prints the first byte of each of its sectors.
-pub(crate) fn call_disk(
-    rt: &HostRuntime,
-    row: &mut Row<'_>,
-    setting: &mut Setting,
-) -> io::Result<()> {
-    let mut bank = bank_of(rt.alloc(), setting)?;
-    make_calls(rt, &mut bank, row)?;
-    let disks = bank.into_disks();
-    for disk in disks.as_slice() {
+/// Prints the first byte of each sector of disks.
+fn print_disks(rt: &HostRuntime, disks: &[MemDisk]) -> io::Result<()> {
+    for disk in disks {
         let (letter, count) = (disk.serial.0[0], disk.sectors.len());
         print!(rt; "disk {letter} of {count}:")?;
         for sector in disk.sectors.as_slice() {
@@ -89,6 +82,28 @@ pub(crate) fn call_disk(
         println!(rt; "")?;
     }
     Ok(())
+}
+
+/// Makes the calls of a row on the disk that is held, and prints the first byte of each of its sectors.
+pub(crate) fn call_disk(
+    rt: &HostRuntime,
+    row: &mut Row<'_>,
+    setting: &mut Setting,
+) -> io::Result<()> {
+    let mut bank = bank_of(rt.alloc(), setting)?;
+    make_calls(rt, &mut bank, row)?;
+    print_disks(rt, bank.into_disks().as_slice())
+}
+
+/// The same on a bank on which no call fails.
+pub(crate) fn call_free(
+    rt: &HostRuntime,
+    row: &mut Row<'_>,
+    setting: &mut Setting,
+) -> io::Result<()> {
+    let mut bank = free_of(rt.alloc(), setting)?;
+    make_calls(rt, &mut bank, row)?;
+    print_disks(rt, bank.into_disks().as_slice())
 }
 
 /// The file of a path, opened as a word says.

@@ -15,7 +15,8 @@ use Rattle.imsm_codec.proofs.Mirror.{one_map, out_by_one}
 use Rattle.imsm_view.specs.declared.volume.Volume.{Volume as View}
 use Rattle.imsm_view.specs.Views.{slot_view}
 use Rattle.imsm_view.proofs.Members.{marks}
-use Rattle.imsm_edit.specs.Meanings.{Tells, with_migration}
+use Rattle.imsm_edit.specs.Meanings.{Tells}
+use Rattle.imsm_edit.specs.Passes.{with_migration}
 use Rattle.imsm_edit.proofs.Changes.{volume_changed, block_as}
 use Rattle.imsm_edit.proofs.Marked.{map_as}
 use Rattle.imsm_buffer.proofs.Replaced.{unchanged_at}

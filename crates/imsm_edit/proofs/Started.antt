@@ -11,7 +11,8 @@ use Rattle.imsm_base.specs.EditsOfTables.{with_volume, with_map, map_with_state,
 use Rattle.byteorder.specs.Endian.{little_bytes}
 use Rattle.imsm_codec.specs.Mpb.{volume_at}
 use Rattle.imsm_view.specs.declared.volume.Volume.{Volume as View}
-use Rattle.imsm_edit.specs.Meanings.{is_init, has_out, state_now, state_before, with_states, edited, with_migration, with_pass, resync_type, has_to_rebuild, with_start, marked_started, seen_resync, Tells}
+use Rattle.imsm_edit.specs.Meanings.{is_init, has_out, state_now, state_before, with_states, edited, Tells}
+use Rattle.imsm_edit.specs.Passes.{with_migration, with_pass, resync_type, has_to_rebuild, with_start, marked_started, seen_resync}
 use Rattle.imsm_edit.proofs.Changes.{volume_changed, block_twice, block_as}
 use Rattle.imsm_edit.proofs.Told.{type_is, states_if, edit_done, edited_after}
 

@@ -12,7 +12,8 @@ use Rattle.imsm_view.specs.declared.volume.Volume.{Volume as View}
 use Rattle.imsm_view.specs.declared.volume.SlotView.{SlotView}
 use Rattle.imsm_view.specs.Views.{slot_view}
 use Rattle.imsm_edit.specs.declared.facts.EditFacts.{EditFacts}
-use Rattle.imsm_edit.specs.Meanings.{is_told, has_to_rebuild, with_states}
+use Rattle.imsm_edit.specs.Meanings.{is_told, with_states}
+use Rattle.imsm_edit.specs.Passes.{has_to_rebuild}
 use Rattle.imsm_edit.specs.Slots.{changed_each, volume_marked}
 
 -- a status with the failed bit set (FAILED_DISK), and the other bits as they are

@@ -1,3 +1,4 @@
 pub mod Meanings
+pub mod Passes
 pub mod Slots
 pub mod Failures

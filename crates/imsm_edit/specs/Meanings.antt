@@ -1,14 +1,13 @@
 -- What edits mean for a started volume: each changes what it names, and then the states of the volume's maps are set.
--- Source: imsm_set_array_state, imsm_process_update and end_migration of super-intel.c; when a map has which state, and
--- which pass a volume starts with, is this project's own.
-use Rattle.std.specs.Prelude.{◌≡◌, ◌<◌, ℕ, ◌/◌, ◌==◌, ◌&&◌, ◌||◌, not, Bool, true, false, if◌then◌else◌, List, [], ◌∷◌, length, map, slice_get, None}
+-- Source: imsm_set_array_state, imsm_process_update and end_migration of super-intel.c; when a map has which state is
+-- this project's own.
+use Rattle.std.specs.Prelude.{◌≡◌, ◌<◌, ℕ, ◌==◌, ◌&&◌, not, Bool, true, false, if◌then◌else◌, List, [], ◌∷◌, length, map, slice_get, None}
 use Rattle.std.specs.Option.{option_map_or}
 use Rattle.std.specs.List.{list_any}
-use Rattle.units.specs.declared.bounds.TheConstants.{UNIT_ROWS}
-use Rattle.imsm_base.specs.Layout.{Block, Volume, map_state_of, migration_type_of}
-use Rattle.imsm_base.specs.Volumes.{first_map, members, is_expected_at, has_pass, has_pass_of, is_unfinished, pass_start, volume_fault, pass_of}
+use Rattle.imsm_base.specs.Layout.{Block, Volume, migration_type_of}
+use Rattle.imsm_base.specs.Volumes.{members, is_expected_at, has_pass, has_pass_of, volume_fault, pass_of}
 use Rattle.imsm_base.specs.Edits.{volume_with_dirty}
-use Rattle.imsm_base.specs.EditsOfTables.{with_volume, with_map, map_with_state, volume_with_pass, volume_with_migration, volume_without_migration}
+use Rattle.imsm_base.specs.EditsOfTables.{with_volume, with_map, map_with_state, volume_with_pass}
 use Rattle.imsm_codec.specs.Mpb.{volume_at}
 use Rattle.imsm_view.specs.declared.volume.Volume.{Volume as View}
 use Rattle.imsm_view.specs.Views.{slot_view}
@@ -55,9 +54,6 @@ abbrev pub seen_before : Bool → View → ℕ
 seen_before broken view =
     if broken then 3 else (if list_any (λ s. s.out && not s.expected) view.slots.items then 2 else 0)
 
-abbrev pub seen_resync : View → ℕ
-seen_resync view = if view.state == 1 || option_map_or is_init view.pass false then 0 else 5
-
 -- a view tells a volume's pass and its slots
 pub record Tells (b : Block) (v : Volume) (view : View) : Type 0 where
   pub pass : view.pass ≡ pass_of v
@@ -86,35 +82,3 @@ at_point unit v = volume_with_pass (migration_type_of v) unit v
 
 abbrev pub marked_point : Block → ℕ → Bool → ℕ → Block
 marked_point b k broken unit = edited b k broken (at_point unit)
-
--- a pass of this type is open, from a unit on
-abbrev pub with_migration : Volume → Volume
-with_migration v = if has_pass v then v else volume_with_migration v
-
-abbrev pub with_pass : ℕ → ℕ → Volume → Volume
-with_pass kind unit v = volume_with_pass kind unit (with_migration v)
-
-abbrev pub started_pass : Block → ℕ → Bool → ℕ → Block
-started_pass b k broken kind = edited b k broken (with_pass kind 0)
-
--- The pass that makes the members of an unfinished volume agree: an init (0) where none has come to its end yet, else a
--- repair (5).
-abbrev pub resync_type : Volume → ℕ
-resync_type v = if map_state_of (first_map v) == 1 || has_pass_of (0 ∷ []) v then 0 else 5
-
--- some slot is to be rebuilt: it is out of sync, and its disk is expected
-abbrev pub has_to_rebuild : Block → Volume → Bool
-has_to_rebuild b v = list_any (λ m. m.is_out && is_expected_at b m.index) (members v)
-
--- A volume as it starts. An unfinished one gets a pass over its rows, which says from then on that they may differ, so
--- the dirty bit is cleared; else a slot is rebuilt, if one is to be. A pass goes on from where it was, and one that has
--- nothing to do is closed.
-abbrev pub with_start : Block → Volume → Volume
-with_start b v =
-    let unit = pass_start v / UNIT_ROWS in
-    if is_unfinished v then volume_with_pass (resync_type v) unit (volume_with_dirty false (with_migration v))
-    else (if has_to_rebuild b v then with_pass 1 unit v
-    else (if has_pass v then volume_without_migration v else v))
-
-abbrev pub marked_started : Block → ℕ → Bool → Block
-marked_started b k broken = edited b k broken (with_start b)

@@ -1,6 +1,6 @@
 -- Slots that are called out of sync, or in sync again, by bit 24 of their entries in a volume's maps.
--- Source: IMSM_ORD_REBUILD, set_imsm_ord_tbl_ent and end_migration of super-intel.c; which slots are in sync when a pass
--- is over is this project's own.
+-- Source: IMSM_ORD_REBUILD, set_imsm_ord_tbl_ent and end_migration of super-intel.c; which slots are in sync when a
+-- pass is over is this project's own.
 use Rattle.std.specs.Prelude.{ℕ, suc, ◌+◌, ◌*◌, ◌/◌, ◌%◌, ◌^◌, Bool, false, if◌then◌else◌, List, [], ◌∷◌, map}
 use Rattle.byteorder.specs.Endian.{little_bytes}
 use Rattle.imsm_base.specs.declared.values.TheConstants.{INDEX_RANGE}

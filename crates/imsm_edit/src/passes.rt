@@ -7,7 +7,8 @@ ghost use Rattle.imsm_base.specs.EditsOfTables.{with_volume, volume_with_pass, v
 ghost use Rattle.imsm_codec.specs.Mpb.{volume_at};
 ghost use Rattle.imsm_buffer.specs.Buffer.{parts_of};
 ghost use Rattle.imsm_view.specs.Views.{slot_view};
-ghost use Rattle.imsm_edit.specs.Meanings.{AreFacts, is_told, with_migration, edited, started_pass, marked_started};
+ghost use Rattle.imsm_edit.specs.Meanings.{AreFacts, is_told, edited};
+ghost use Rattle.imsm_edit.specs.Passes.{with_migration, started_pass, marked_started};
 ghost use Rattle.imsm_edit.specs.Slots.{marked_in_sync};
 
 use crate::facts::EditFacts;

@@ -6,7 +6,8 @@ ghost use Rattle.imsm_base.specs.Layout.{volume_count_of};
 ghost use Rattle.imsm_base.specs.EditsOfTables.{with_volume};
 ghost use Rattle.imsm_codec.specs.Mpb.{volume_at};
 ghost use Rattle.imsm_buffer.specs.Buffer.{parts_of};
-ghost use Rattle.imsm_edit.specs.Meanings.{is_init, seen_now, seen_before, seen_resync, with_states, Tells};
+ghost use Rattle.imsm_edit.specs.Meanings.{is_init, seen_now, seen_before, with_states, Tells};
+ghost use Rattle.imsm_edit.specs.Passes.{seen_resync};
 
 use imsm_buffer::MpbBuf;
 use imsm_view::{SlotView, Volume};

@@ -8,7 +8,8 @@ use Rattle.imsm_codec.proofs.Found.{volumes_counted, maps_counted}
 use Rattle.imsm_buffer.specs.Buffer.{parts_of}
 use Rattle.imsm_view.specs.Questions.{HasWords}
 use Rattle.imsm_view.proofs.Words.{words_from}
-use Rattle.imsm_edit.specs.Meanings.{edited, with_migration, with_states, is_told, has_to_rebuild}
+use Rattle.imsm_edit.specs.Meanings.{edited, with_states, is_told}
+use Rattle.imsm_edit.specs.Passes.{with_migration, has_to_rebuild}
 use Rattle.imsm_edit.proofs.Changes.{dirty_is}
 use Rattle.imsm_edit.proofs.Told.{told_of, slots_told, open_told, pass_open, pass_closed}
 use Rattle.imsm_edit.proofs.Opened.{slots_stay, opened, long_state}

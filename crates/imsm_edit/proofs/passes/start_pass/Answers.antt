@@ -4,7 +4,8 @@ use Rattle.imsm_base.specs.EditsOfTables.{volume_with_pass}
 use Rattle.imsm_codec.specs.Mpb.{volume_at}
 use Rattle.imsm_codec.proofs.Found.{volumes_counted, maps_counted}
 use Rattle.imsm_buffer.specs.Buffer.{parts_of}
-use Rattle.imsm_edit.specs.Meanings.{edited, with_migration, with_pass, is_told}
+use Rattle.imsm_edit.specs.Meanings.{edited, is_told}
+use Rattle.imsm_edit.specs.Passes.{with_migration, with_pass}
 use Rattle.imsm_edit.proofs.Told.{slots_told, open_told, edited_after}
 use Rattle.imsm_edit.proofs.Opened.{slots_stay, opened, long_state}
 use Rattle.imsm_edit.proofs.passes.start_pass.Goals as goal
