@@ -11,4 +11,4 @@ mod word;
 
 pub use bytes::{digits_of, is_plain, name_bytes, push_all_escaped, push_escaped, push_name};
 pub use number::{digits_of_number, push_hex_byte, push_hex_number, push_number};
-pub use word::{Word, push_line};
+pub use word::{Word, push_line, push_words};

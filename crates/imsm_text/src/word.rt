@@ -40,8 +40,8 @@ fn push_spaced(out: &mut Vec<u8>, word: &Word<'_>) -> Result<(), AllocError>
     push_word(out, word)
 }
 
-/// Appends words with a space before each.
-fn push_words(out: &mut Vec<u8>, words: &[Word<'_>]) -> Result<(), AllocError>
+/// Appends words with a space before each, as they stand in a line behind its first word.
+pub fn push_words(out: &mut Vec<u8>, words: &[Word<'_>]) -> Result<(), AllocError>
     ensures { OnOk result (out.new.items ≡ out.old.items ++ flat_map spaced (words_text words.now)) }
 {
     for word in words {
