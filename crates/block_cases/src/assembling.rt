@@ -108,6 +108,17 @@ fn waited(rt: &impl Abort, verdict: Result<Verdict, AssembleFault>) -> Missing {
     }
 }
 
+/// The first of the disks that are waited for.
+fn waited_first(rt: &impl Abort, verdict: Result<Verdict, AssembleFault>) -> Missing {
+    match verdict {
+        Ok(Verdict::Waiting { list, .. }) => {
+            assert!(rt; !list.is_empty());
+            list[0]
+        }
+        _ => panic!(rt; "not waiting"),
+    }
+}
+
 #[test]
 fn a_mirror_is_opened_by_its_newest_block(rt: HostRuntime) -> Result<(), Fail> {
     let alloc = rt.alloc();
@@ -141,6 +152,23 @@ fn an_expected_disk_is_waited_for(rt: HostRuntime) -> Result<(), Fail> {
     ];
     let torn = waited(&rt, judge(alloc, &small, false));
     assert_eq!(rt; torn.cause, Lack::Torn(StoreFault::Small(4096, 2000)));
+    Ok(())
+}
+
+#[test]
+fn a_disk_that_lacks_is_done_without_where_that_is_asked(rt: HostRuntime) -> Result<(), Fail> {
+    let alloc = rt.alloc();
+    let block = mirror(7, 1);
+    let alone = [whole(&rt, alloc, 0, b'A', 4096, &block)?];
+    let opening = opened(&rt, judge(alloc, &alone, true));
+    // its slot counts as out of sync and is still expected, so that a pass is wanted
+    let volumes = [VolumeVerdict::Degraded(Some(0))];
+    assert_eq!(rt; opening.volumes.as_slice(), volumes.as_slice());
+    assert_eq!(rt; opening.disks.as_slice(), [DiskRole::Member(0)].as_slice());
+    // where no disk of the mirror is there with its block, none starts
+    let small = [whole(&rt, alloc, 0, b'A', 2000, &block)?];
+    let refused = waited_first(&rt, judge(alloc, &small, true));
+    assert_eq!(rt; refused.cause, Lack::Torn(StoreFault::Small(4096, 2000)));
     Ok(())
 }
 

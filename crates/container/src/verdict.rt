@@ -1,7 +1,10 @@
 //! What is said of a container.
+ghost use Rattle.std.specs.Prelude.{◌≡◌};
+ghost use Rattle.container.specs.Volumes.{is_any_started};
+
 use crate::missing::Missing;
 use crate::role::DiskRole;
-use crate::volume::VolumeVerdict;
+use crate::volume::{VolumeVerdict, is_any_started};
 use arrayvec::ArrayVec;
 use generation_pick::PickFault;
 use imsm_buffer::MpbBuf;
@@ -45,6 +48,15 @@ pub struct Opening {
     pub generation: u32,
     pub volumes: ArrayVec<VolumeVerdict, MAX_VOLUMES>,
     pub disks: ArrayVec<DiskRole, MAX_DISKS>,
+}
+
+impl Opening {
+    /// Whether a volume starts.
+    pub fn starts(&self) -> bool
+        ensures { result ≡ is_any_started self.now.volumes.items }
+    {
+        is_any_started(self.volumes.as_slice())
+    }
 }
 
 /// Why there is no verdict.
