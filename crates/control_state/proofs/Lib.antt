@@ -3,6 +3,7 @@ pub mod Members
 pub mod Held
 pub mod Eights
 pub mod Books
+pub mod Clients
 pub mod Rounded
 pub mod Submitted
 pub mod Stillness

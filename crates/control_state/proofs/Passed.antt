@@ -24,5 +24,5 @@ passed_same p (x ∷ xs) (suc k) d c below same = ap (λ ys. client_of p x ∷ y
 pub moved_same : (p : Plan) (c : Client) (seen : List Op) (next : ℕ) → seen ≡ p.ops.items → left_from seen c.number next ≡ left_from seen c.number c.next
     → client_of p (record c { next = next }) ≡ client_of p c
 moved_same p c seen next is same =
-    ap (λ (l : List ℕ). record { left = l; job = job_of (numbers p.members.items) c.work })
+    ap (λ (l : List ℕ). record { left = l; job = job_of (numbers p.members.items) c.read c.work })
     (subst (λ (ops : List Op). left_from ops c.number next ≡ left_from ops c.number c.next) is same)

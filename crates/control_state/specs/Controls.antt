@@ -1,12 +1,11 @@
 -- The whole control state as the machine has it, seen in the code's types. Source: this project's own.
-use Rattle.std.specs.Prelude.{ℕ, List, [], ◌∷◌, Option, Some, None}
+use Rattle.std.specs.Prelude.{ℕ, Option, Some, None}
 use Rattle.units.specs.declared.disk.DiskNo.{DiskNo}
-use Rattle.array_model.specs.declared.journal.Event.{Event}
 use Rattle.stage_machine.specs.Machine as machine
 use Rattle.control_state.specs.declared.plan.Plan.{Plan}
-use Rattle.control_state.specs.declared.control.Events.{Events}
-use Rattle.control_state.specs.declared.control.Events.TheVariants.{Zero, One, Two}
+use Rattle.control_state.specs.declared.event.Events.{Events}
 use Rattle.control_state.specs.declared.control.Control.{Control}
+use Rattle.control_state.specs.Events.{listed}
 use Rattle.control_state.specs.Seen.{state_of, clients_of}
 use Rattle.control_state.specs.Rounds.{round_of}
 
@@ -22,10 +21,5 @@ control_of p c = record {
   failed = failed_of c.failed;
 }
 
-abbrev pub listed : Events → List Event
-listed Zero = []
-listed (One e) = e ∷ []
-listed (Two e f) = e ∷ f ∷ []
-
 abbrev pub out_of : Plan → Control → Events → machine.Out
-out_of p c es = record { next = control_of p c; events = listed es }
+out_of p c es = record { next = control_of p c; events = listed c.clients es }

@@ -1,5 +1,6 @@
 -- The control state as the machine has it, seen in the code's types. Source: this project's own.
-use Rattle.std.specs.Prelude.{ℕ, ◌-◌, ◌==◌, ◌&&◌, not, Bool, true, false, List, [], ◌∷◌, length, map, drop, filter, Option, Some, None}
+use Rattle.std.specs.Prelude.{ℕ, ◌-◌, ◌==◌, ◌&&◌, not, Bool, true, false, List, [], ◌∷◌, length, map, drop, filter, slice_get, Option, Some, None}
+use Rattle.std.specs.Option.{option_map_or}
 use Rattle.std.specs.List.{range_with_len}
 use Rattle.units.specs.declared.disk.Sector.{Sector}
 use Rattle.units.specs.declared.disk.DiskNo.{DiskNo}
@@ -26,6 +27,7 @@ use Rattle.control_state.specs.declared.job.Work.{Work}
 use Rattle.control_state.specs.declared.job.Need.{Need}
 use Rattle.control_state.specs.declared.job.Need.TheVariants.{Nothing as NoNeed, Read, Write, Sync, Done, Value}
 use Rattle.control_state.specs.declared.client.Client.{Client}
+use Rattle.control_state.specs.Events.{event_of}
 
 -- THE PLAN
 
@@ -71,7 +73,7 @@ state_of Idle = machine.IsIdle
 abbrev pub move_of : Move → machine.Move
 move_of Nothing = machine.Nothing
 move_of Starts = machine.Starts
-move_of (Makes to event) = machine.Makes (state_of to) event
+move_of (Makes to event) = machine.Makes (state_of to) (event_of event)
 
 abbrev pub pending_if : Bool → List Event
 pending_if true = Pended machine.the_volume ∷ []
@@ -79,24 +81,26 @@ pending_if false = []
 
 -- JOBS
 
-abbrev pub step_of : List ℕ → JobStep → jobs.JobStep
-step_of members Waiting = jobs.Waiting
-step_of members (Writing at) = jobs.Writing (drop at members)
-step_of members (Syncing at) = jobs.Syncing (drop at members)
-step_of members Written = jobs.Written
-step_of members (Got value) = jobs.Got value
+-- the step of a job, its job and its need, where this sector stands with its client
 
-abbrev pub job_of : List ℕ → Option Work → jobs.Job
-job_of members None = jobs.NoJob
-job_of members (Some work) = jobs.Busy work.op (step_of members work.step)
+abbrev pub step_of : List ℕ → Sector → JobStep → jobs.JobStep
+step_of members read Waiting = jobs.Waiting
+step_of members read (Writing at) = jobs.Writing (drop at members)
+step_of members read (Syncing at) = jobs.Syncing (drop at members)
+step_of members read Written = jobs.Written
+step_of members read Got = jobs.Got read
 
-abbrev pub need_of : List ℕ → Need → jobs.Need
-need_of members NoNeed = jobs.NoNeed
-need_of members (Read d) = jobs.Reads d.0
-need_of members (Write d rest) = jobs.Writes d.0 (drop rest members)
-need_of members (Sync d rest) = jobs.Syncs d.0 (drop rest members)
-need_of members Done = jobs.Answers IsDone
-need_of members (Value value) = jobs.Answers (IsValue value.now)
+abbrev pub job_of : List ℕ → Sector → Option Work → jobs.Job
+job_of members read None = jobs.NoJob
+job_of members read (Some work) = jobs.Busy work.op (step_of members read work.step)
+
+abbrev pub need_of : List ℕ → Sector → Need → jobs.Need
+need_of members read NoNeed = jobs.NoNeed
+need_of members read (Read d) = jobs.Reads d.0
+need_of members read (Write d rest) = jobs.Writes d.0 (drop rest members)
+need_of members read (Sync d rest) = jobs.Syncs d.0 (drop rest members)
+need_of members read Done = jobs.Answers IsDone
+need_of members read Value = jobs.Answers (IsValue read)
 
 -- CLIENTS
 
@@ -104,10 +108,14 @@ need_of members (Value value) = jobs.Answers (IsValue value.now)
 abbrev pub left_from : List Op → ℕ → ℕ → List ℕ
 left_from ops k next = filter (is_of_client ops k) (range_with_len next (length ops - next))
 
+-- the number of the client at a place, if it is there
+abbrev pub number_of : List Client → ℕ → ℕ
+number_of clients k = option_map_or (λ (c : Client). c.number) (slice_get clients k) 0
+
 abbrev pub client_of : Plan → Client → jobs.Client
 client_of p c = record {
   left = left_from p.ops.items c.number c.next;
-  job = job_of (numbers p.members.items) c.work;
+  job = job_of (numbers p.members.items) c.read c.work;
 }
 
 abbrev pub clients_of : Plan → List Client → List jobs.Client
@@ -115,4 +123,4 @@ clients_of p clients = map (λ (c : Client). client_of p c) clients
 
 -- a client at a place other than one holds a row
 abbrev pub locks : Plan → ℕ → ℕ → ℕ → Client → Bool
-locks p row but at c = not (at == but) && jobs.holds (plan_setting p) row (job_of (numbers p.members.items) c.work)
+locks p row but at c = not (at == but) && jobs.holds (plan_setting p) row (client_of p c).job

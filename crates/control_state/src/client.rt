@@ -1,18 +1,22 @@
 //! The clients of a run.
 ghost use Rattle.std.specs.Prelude.{◌≡◌, ◌+◌, ◌<◌, ◌∷◌, [], length, IfSome, IfNone};
 ghost use Rattle.stage_machine.specs.Jobs as machine;
+ghost use Rattle.control_state.specs.Events.{read_of};
 ghost use Rattle.control_state.specs.Seen.{plan_setting, left_from, clients_of, locks};
 
 use crate::job::Work;
 use crate::plan::Plan;
 use array_model::Op;
+use units::{SECTOR_BYTES, Sector};
 
-/// A client: its number, the place in the script from which on its operations weren't submitted, and its job.
+/// A client: its number, the place in the script from which on its operations weren't submitted, its job, and the sector
+/// that its last read gave.
 #[derive(Clone, Copy, Debug, PartialEq, Eq)]
 pub struct Client {
     pub number: u8,
     pub next: u64,
     pub work: Option<Work>,
+    pub read: Sector,
 }
 
 /// The first operation of a client from a place on.
@@ -40,11 +44,21 @@ pub fn next_place(ops: &[Op], client: u8, from: u64) -> u64
     }
 }
 
+/// The sector that stands with the client at a place, if it is there.
+pub fn read_of(clients: &[Client], k: u8) -> Sector
+    ensures { result ≡ read_of clients.now k }
+{
+    match clients.get(k as usize) {
+        Some(client) => client.read,
+        None => Sector([0; SECTOR_BYTES]),
+    }
+}
+
 /// Whether a client at a place other than one holds a row.
 fn locks(plan: &Plan, row: u64, but: u8, at: usize, client: &Client) -> bool
     ensures { result ≡ locks plan.now row but at client.now }
 {
-    at != but as usize && plan.holds(row, &client.work)
+    at != but as usize && plan.holds(row, client)
 }
 
 /// Whether a client other than one holds a row.
@@ -64,7 +78,7 @@ pub fn has_write(plan: &Plan, clients: &[Client]) -> bool
     ensures { result ≡ machine.any_writing (plan_setting plan.now) (clients_of plan.now clients.now) }
 {
     for client in clients {
-        if plan.is_writing(&client.work) {
+        if plan.is_writing(client) {
             return true;
         }
     }

@@ -1,22 +1,24 @@
 //! The row jobs of clients: a write goes to each member and is then synced on each; a read is of the first member.
 ghost use Rattle.std.specs.Prelude.{◌≡◌, ◌≤◌, length, drop, slice_get};
+ghost use Rattle.units.specs.declared.disk.Sector.{Sector};
 ghost use Rattle.array_model.specs.Script.{kind_at};
 ghost use Rattle.stage_machine.specs.Jobs as machine;
-ghost use Rattle.control_state.specs.Seen.{numbers, plan_setting, job_of, step_of, need_of};
+ghost use Rattle.control_state.specs.Seen.{numbers, plan_setting, client_of, step_of, need_of};
 
+use crate::client::Client;
 use crate::plan::Plan;
 use array_model::OpKind;
-use units::{DiskNo, Sector};
+use units::DiskNo;
 
 /// Where a job stands: no call was made; the members from a place on are left to write, or to sync; all is done; a
-/// value was read.
+/// value was read, which stands with the client.
 #[derive(Clone, Copy, Debug, PartialEq, Eq)]
 pub enum JobStep {
     Waiting,
     Writing(u8),
     Syncing(u8),
     Written,
-    Got(Sector),
+    Got,
 }
 
 /// The job of an operation.
@@ -26,16 +28,16 @@ pub struct Work {
     pub step: JobStep,
 }
 
-/// What a job needs next: a call on a disk, after which the members from a place on are left, or its answer. A value
-/// that was read stays where it is.
-#[derive(Clone, Copy)]
-pub enum Need<'a> {
+/// What a job needs next: a call on a disk, after which the members from a place on are left, or its answer, which of a
+/// read is the value that stands with the client.
+#[derive(Clone, Copy, Debug, PartialEq, Eq)]
+pub enum Need {
     Nothing,
     Read(DiskNo),
     Write(DiskNo, u8),
     Sync(DiskNo, u8),
     Done,
-    Value(&'a Sector),
+    Value,
 }
 
 fn member_at(members: &[DiskNo], at: u8) -> Option<DiskNo>
@@ -44,8 +46,8 @@ fn member_at(members: &[DiskNo], at: u8) -> Option<DiskNo>
     members.get(at as usize).copied()
 }
 
-fn read_need(members: &[DiskNo]) -> Need<'static>
-    ensures { need_of (numbers members.now) result ≡ machine.read_need (numbers members.now) }
+fn read_need(members: &[DiskNo]) -> Need
+    ensures { (read : Sector) → need_of (numbers members.now) read result ≡ machine.read_need (numbers members.now) }
 {
     match member_at(members, 0) {
         Some(disk) => Need::Read(disk),
@@ -53,9 +55,9 @@ fn read_need(members: &[DiskNo]) -> Need<'static>
     }
 }
 
-fn write_need(members: &[DiskNo], at: u8) -> Need<'static>
+fn write_need(members: &[DiskNo], at: u8) -> Need
     requires { length members.now ≤ 16 }
-    ensures { need_of (numbers members.now) result ≡ machine.write_need (drop at (numbers members.now)) }
+    ensures { (read : Sector) → need_of (numbers members.now) read result ≡ machine.write_need (drop at (numbers members.now)) }
 {
     match member_at(members, at) {
         Some(disk) => Need::Write(disk, at + 1),
@@ -63,9 +65,9 @@ fn write_need(members: &[DiskNo], at: u8) -> Need<'static>
     }
 }
 
-fn sync_need(members: &[DiskNo], at: u8) -> Need<'static>
+fn sync_need(members: &[DiskNo], at: u8) -> Need
     requires { length members.now ≤ 16 }
-    ensures { need_of (numbers members.now) result ≡ machine.sync_need (drop at (numbers members.now)) }
+    ensures { (read : Sector) → need_of (numbers members.now) read result ≡ machine.sync_need (drop at (numbers members.now)) }
 {
     match member_at(members, at) {
         Some(disk) => Need::Sync(disk, at + 1),
@@ -75,8 +77,8 @@ fn sync_need(members: &[DiskNo], at: u8) -> Need<'static>
 
 impl Plan {
     /// What the job of an operation needs where no call was made yet.
-    fn first_need(&self, op: u64) -> Need<'static>
-        ensures { need_of (numbers self.now.members.items) result
+    fn first_need(&self, op: u64) -> Need
+        ensures { (read : Sector) → need_of (numbers self.now.members.items) read result
             ≡ machine.first_need (plan_setting self.now) (kind_at self.now.ops.items op) }
     {
         let members = self.members.as_slice();
@@ -88,24 +90,24 @@ impl Plan {
     }
 
     /// What a job needs where nothing holds it.
-    pub fn need<'a>(&self, work: &'a Work) -> Need<'a>
-        ensures { need_of (numbers self.now.members.items) result
+    pub fn need(&self, work: &Work) -> Need
+        ensures { (read : Sector) → need_of (numbers self.now.members.items) read result
             ≡ machine.need_of (plan_setting self.now) work.now.op
-            (step_of (numbers self.now.members.items) work.now.step) }
+            (step_of (numbers self.now.members.items) read work.now.step) }
     {
         let members = self.members.as_slice();
-        match &work.step {
+        match work.step {
             JobStep::Waiting => self.first_need(work.op),
-            JobStep::Writing(at) => write_need(members, *at),
-            JobStep::Syncing(at) => sync_need(members, *at),
+            JobStep::Writing(at) => write_need(members, at),
+            JobStep::Syncing(at) => sync_need(members, at),
             JobStep::Written => Need::Done,
-            JobStep::Got(value) => Need::Value(value),
+            JobStep::Got => Need::Value,
         }
     }
 
     /// Where a job stands once the members before a place were written.
     pub fn after_write(&self, rest: u8) -> JobStep
-        ensures { step_of (numbers self.now.members.items) result
+        ensures { (read : Sector) → step_of (numbers self.now.members.items) read result
             ≡ machine.after_write (plan_setting self.now) (drop rest (numbers self.now.members.items)) }
     {
         if (rest as usize) < self.members.len() {
@@ -117,7 +119,7 @@ impl Plan {
 
     /// Where a job stands once the members before a place were synced.
     pub fn after_sync(&self, rest: u8) -> JobStep
-        ensures { step_of (numbers self.now.members.items) result
+        ensures { (read : Sector) → step_of (numbers self.now.members.items) read result
             ≡ machine.after_sync (drop rest (numbers self.now.members.items)) }
     {
         if (rest as usize) < self.members.len() {
@@ -127,23 +129,21 @@ impl Plan {
         }
     }
 
-    /// Whether a job holds a row: it does from its first call on.
-    pub fn holds(&self, row: u64, work: &Option<Work>) -> bool
-        ensures { result ≡ machine.holds (plan_setting self.now) row
-            (job_of (numbers self.now.members.items) work.now) }
+    /// Whether a client's job holds a row: it does from its first call on.
+    pub fn holds(&self, row: u64, client: &Client) -> bool
+        ensures { result ≡ machine.holds (plan_setting self.now) row (client_of self.now client.now).job }
     {
-        match work {
+        match &client.work {
             None => false,
             Some(work) => !matches!(work.step, JobStep::Waiting) && self.row(work.op) == row,
         }
     }
 
-    /// Whether a job is a write without an answer.
-    pub fn is_writing(&self, work: &Option<Work>) -> bool
-        ensures { result ≡ machine.is_writing (plan_setting self.now)
-            (job_of (numbers self.now.members.items) work.now) }
+    /// Whether a client's job is a write without an answer.
+    pub fn is_writing(&self, client: &Client) -> bool
+        ensures { result ≡ machine.is_writing (plan_setting self.now) (client_of self.now client.now).job }
     {
-        match work {
+        match &client.work {
             None => false,
             Some(work) => self.is_write(work.op),
         }

@@ -8,6 +8,7 @@
 mod book;
 mod client;
 mod control;
+mod event;
 mod job;
 mod open;
 mod plan;
@@ -17,8 +18,9 @@ mod still;
 mod submit;
 
 pub use book::Book;
-pub use client::{Client, has_write, is_locked, next_op};
-pub use control::{Control, Events};
+pub use client::{Client, has_write, is_locked, next_op, read_of};
+pub use control::Control;
+pub use event::{Events, ShortEvent};
 pub use job::{JobStep, Need, Work};
 pub use plan::Plan;
 pub use round::{Ask, Phase, Round, Step};

@@ -7,6 +7,7 @@ ghost use Rattle.stage_machine.specs.Machine as machine;
 ghost use Rattle.stage_machine.specs.Jobs as jobs;
 ghost use Rattle.control_state.specs.declared.plan.Plan.{Plan as PlanSeen};
 ghost use Rattle.control_state.specs.Book.{IsBook, IsBlockOf, laid_at};
+ghost use Rattle.control_state.specs.Events.{blank_sector};
 ghost use Rattle.control_state.specs.Seen.{clients_of};
 ghost use Rattle.control_state.specs.Controls.{control_of};
 ghost use Rattle.control_state.specs.Begins.{begins_at};
@@ -36,18 +37,19 @@ impl Book {
 
 /// A client that has all its operations left.
 fn client(number: u8) -> Client
-    ensures { result ≡ record { number = number; next = 0; work = None } }
+    ensures { result ≡ record { number = number; next = 0; work = None; read = blank_sector } }
 {
     Client {
         number,
         next: 0,
         work: None,
+        read: Sector([0; SECTOR_BYTES]),
     }
 }
 
 /// The clients, by their numbers.
 fn clients() -> [Client; CLIENTS]
-    ensures { result ≡ map (λ k. record { number = k; next = 0; work = None }) (range_with_len 0 16) }
+    ensures { result ≡ map (λ k. record { number = k; next = 0; work = None; read = blank_sector }) (range_with_len 0 16) }
 {
     let mut clients = [client(0); CLIENTS];
     for k in 0..CLIENTS {

@@ -3,7 +3,7 @@ ghost use Rattle.std.specs.Prelude.{◌≡◌};
 ghost use Rattle.stage_machine.specs.States as machine;
 ghost use Rattle.control_state.specs.Seen.{state_of, move_of, pending_if};
 
-use array_model::Event;
+use crate::event::ShortEvent;
 use units::VolNo;
 
 /// The state of the array of a volume, as the kernel has it.
@@ -22,7 +22,7 @@ pub enum State {
 pub enum Move {
     Nothing,
     Starts,
-    Makes(State, Event),
+    Makes(State, ShortEvent),
 }
 
 /// The one volume that is started.
@@ -43,17 +43,17 @@ pub fn decide(started: bool, state: State, recorded: bool, dirty: bool) -> Move
         return Move::Starts;
     }
     match state {
-        State::Readonly => Move::Makes(State::ReadAuto, Event::Ready(VOLUME)),
+        State::Readonly => Move::Makes(State::ReadAuto, ShortEvent::Ready),
         State::ReadAuto | State::Clean => starts_if(dirty),
         State::Pending => {
             if recorded {
-                Move::Makes(State::Active, Event::Active(VOLUME))
+                Move::Makes(State::Active, ShortEvent::Active)
             } else {
                 starts_if(!dirty)
             }
         }
         State::Active => Move::Nothing,
-        State::Idle => Move::Makes(State::Clean, Event::Clean(VOLUME)),
+        State::Idle => Move::Makes(State::Clean, ShortEvent::Clean),
     }
 }
 

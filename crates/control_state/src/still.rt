@@ -11,7 +11,7 @@ ghost use Rattle.control_state.specs.Rounds.{round_of, next_ask};
 ghost use Rattle.control_state.specs.Controls.{control_of};
 ghost use Rattle.control_state.specs.Still.{is_silent, turn_does_nothing, is_still};
 
-use crate::client::{Client, has_write, next_op};
+use crate::client::{has_write, next_op};
 use crate::control::Control;
 use crate::job::Need;
 use crate::plan::Plan;
@@ -89,8 +89,8 @@ impl Control {
             ≡ is_silent (machine.submit_next (plan_setting plan.now) (control_of plan.now self.now) k
             (client_at (control_of plan.now self.now).clients k).left).events }
     {
-        let Client { number, next, .. } = self.clients[k as usize];
-        match next_op(&plan.ops, number, next) {
+        let client = &self.clients[k as usize];
+        match next_op(&plan.ops, client.number, client.next) {
             None => true,
             Some(op) => self.is_silent_op(plan, op),
         }
@@ -104,7 +104,7 @@ impl Control {
     {
         match self.work(k) {
             None => self.is_silent_submit(plan, k),
-            Some(work) => matches!(self.need(plan, k, work), Need::Nothing),
+            Some(work) => matches!(self.need(plan, k, &work), Need::Nothing),
         }
     }
 

@@ -50,21 +50,21 @@ first_has p d (Some (OpWrite v s value)) some = writes_has 0 d (numbers p.member
 first_has p d (Some (OpRead v s)) some = reads_has 0 d (numbers p.members.items) (numbers p.members.items) refl some
 first_has p d (Some (OpWhole v)) some = absurd (cc some)
 
-step_has : (p : Plan) (i d : ℕ) (step : JobStep) → disk_in (jobs.need_of (plan_setting p) i (step_of (numbers p.members.items) step)) ≡ Some d → has_disk d (numbers p.members.items) ≡ true
-step_has p i d Waiting some = first_has p d (kind_at p.ops.items i) some
-step_has p i d (Writing at) some = writes_has at d (numbers p.members.items) (drop at (numbers p.members.items)) refl some
-step_has p i d (Syncing at) some = syncs_has at d (numbers p.members.items) (drop at (numbers p.members.items)) refl some
-step_has p i d Written some = absurd (cc some)
-step_has p i d (Got value) some = absurd (cc some)
+step_has : (p : Plan) (i d : ℕ) (read : Sector) (step : JobStep) → disk_in (jobs.need_of (plan_setting p) i (step_of (numbers p.members.items) read step)) ≡ Some d → has_disk d (numbers p.members.items) ≡ true
+step_has p i d read Waiting some = first_has p d (kind_at p.ops.items i) some
+step_has p i d read (Writing at) some = writes_has at d (numbers p.members.items) (drop at (numbers p.members.items)) refl some
+step_has p i d read (Syncing at) some = syncs_has at d (numbers p.members.items) (drop at (numbers p.members.items)) refl some
+step_has p i d read Written some = absurd (cc some)
+step_has p i d read Got some = absurd (cc some)
 
-unless_has : (p : Plan) (i d : ℕ) (step : JobStep) (held : Bool) → disk_in (need_unless (plan_setting p) i (step_of (numbers p.members.items) step) held) ≡ Some d → has_disk d (numbers p.members.items) ≡ true
-unless_has p i d step true some = absurd (cc some)
-unless_has p i d step false some = step_has p i d step some
+unless_has : (p : Plan) (i d : ℕ) (read : Sector) (step : JobStep) (held : Bool) → disk_in (need_unless (plan_setting p) i (step_of (numbers p.members.items) read step) held) ≡ Some d → has_disk d (numbers p.members.items) ≡ true
+unless_has p i d read step true some = absurd (cc some)
+unless_has p i d read step false some = step_has p i d read step some
 
 -- a disk that a job needs is a member
-pub needed_has : (p : Plan) (c : Control) (k i d : ℕ) (step : JobStep) (n : jobs.Need) → n ≡ need_now (plan_setting p) c k i (step_of (numbers p.members.items) step) → disk_in n ≡ Some d
+pub needed_has : (p : Plan) (c : Control) (k : ℕ) (read : Sector) (i d : ℕ) (step : JobStep) (n : jobs.Need) → n ≡ need_now (plan_setting p) c k i (step_of (numbers p.members.items) read step) → disk_in n ≡ Some d
     → has_disk d (numbers p.members.items) ≡ true
-needed_has p c k i d step n is some = unless_has p i d step (is_held (plan_setting p) c k i) (sym (ap disk_in is) ∙ some)
+needed_has p c k read i d step n is some = unless_has p i d read step (is_held (plan_setting p) c k i) (sym (ap disk_in is) ∙ some)
 
 below : (a b : ℕ) → nat_lt a b ≡ true → a < b
 below a b is = grind (arith, nat_tests)

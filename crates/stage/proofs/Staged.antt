@@ -18,9 +18,10 @@ use Rattle.stage_machine.specs.States.{State, IsReadonly, IsReadAuto, IsClean, I
 use Rattle.stage_machine.specs.Jobs.{Job, NoJob, Busy, Got, Need, NoNeed, Reads, Writes, Syncs, Answers, client_at, placement_at, any_writing, after_write, after_sync}
 use Rattle.stage_machine.specs.Machine.{Control, Action, Monitors, Asks, Quiets, Out, turn, turned, turned_unless, call_of, calls_after, stamped, moved, put_round, called, monitor_at, submit_write, submit_read, submit_kind, submit_unless, submit_next, put_client, meet, need_now, client_by, quieted, quiet_if}
 use Rattle.control_state.specs.declared.plan.Plan.{Plan}
-use Rattle.control_state.specs.declared.control.Events.{Events}
-use Rattle.control_state.specs.declared.control.Events.TheVariants.{Zero, One, Two}
-use Rattle.control_state.specs.Controls.{listed}
+use Rattle.control_state.specs.declared.client.Client.{Client}
+use Rattle.control_state.specs.declared.event.Events.{Events}
+use Rattle.control_state.specs.declared.event.Events.TheVariants.{Zero, One, Two, Value}
+use Rattle.control_state.specs.Events.{listed}
 use Rattle.stage.specs.Runs.{Makes as Made, MakesTrue}
 use Rattle.stage.specs.Stages.{Seen, IsStage, Turns, setting_of}
 use Rattle.stage.proofs.Going.{goes_on}
@@ -43,17 +44,18 @@ not_full room len made is = by (nat_lt room (len + 4)) (nat_le (2 ^ 48) made) re
     by false true one two is = absurd (cc is)
     by false false one two is = (grind (arith, nat_tests, one), grind (arith, nat_tests, two))
 
-at_most_two : (events : Events) → length (listed events) ≤ 2
-at_most_two Zero = omega arith
-at_most_two (One e) = omega arith
-at_most_two (Two e f) = omega arith
+at_most_two : (clients : List Client) (events : Events) → length (listed clients events) ≤ 2
+at_most_two clients Zero = omega arith
+at_most_two clients (One e) = omega arith
+at_most_two clients (Two e f) = omega arith
+at_most_two clients (Value op k) = omega arith
 
 -- what a turn enters has room
-pub entered_within : (room made : ℕ) (journal : List Entry) (stamp : ℕ) (events : Events) → (nat_lt room (length journal + 4) || nat_le (2 ^ 48) made) ≡ false → length (journal ++ stamped stamp (listed events)) ≤ room
-entered_within room made journal stamp events is =
+pub entered_within : (room made : ℕ) (journal : List Entry) (stamp : ℕ) (clients : List Client) (events : Events) → (nat_lt room (length journal + 4) || nat_le (2 ^ 48) made) ≡ false → length (journal ++ stamped stamp (listed clients events)) ≤ room
+entered_within room made journal stamp clients events is =
     let room_left = (not_full room (length journal) made is).0 in
-    let two = at_most_two events in
-    let long : length (journal ++ stamped stamp (listed events)) ≡ length journal + length (listed events) = length-append journal (stamped stamp (listed events)) ∙ ap (λ (k : ℕ). length journal + k) (length-stamped stamp (listed events)) in
+    let two = at_most_two clients events in
+    let long : length (journal ++ stamped stamp (listed clients events)) ≡ length journal + length (listed clients events) = length-append journal (stamped stamp (listed clients events)) ∙ ap (λ (k : ℕ). length journal + k) (length-stamped stamp (listed clients events)) in
     omega (arith, room_left, two, long)
 
 -- what a turn makes is seen of the stage

@@ -3,31 +3,44 @@ ghost use Rattle.std.specs.Prelude.{◌≡◌, ◌+◌, ◌^◌, ◌<◌, ℕ, N
 ghost use Rattle.units.specs.declared.disk.Sector.{Sector as SectorBytes};
 ghost use Rattle.member_bank.specs.Told.{Keeps};
 ghost use Rattle.array_model.specs.Blocks.{Laid};
-ghost use Rattle.stage_machine.specs.Jobs.{client_at, Busy};
+ghost use Rattle.stage_machine.specs.Jobs.{client_at, Busy, Got};
 ghost use Rattle.stage_machine.specs.Rounds.{Ended};
 ghost use Rattle.stage_machine.specs.Machine.{Asks, put_client, dropped};
 ghost use Rattle.control_state.specs.declared.plan.Plan.{Plan as PlanSeen};
+ghost use Rattle.control_state.specs.Events.{read_of};
 ghost use Rattle.control_state.specs.Seen.{numbers, step_of};
 ghost use Rattle.control_state.specs.Controls.{control_of, out_of, failed_of};
 ghost use Rattle.stage.specs.Runs.{run_setting, FitsBank, MakesTrue};
 ghost use Rattle.stage.specs.Causes.{Counts, Grows};
 
 use crate::calls::{read_row, write_row};
-use array_model::Answer;
 use control_state::{Control, Events, JobStep, Need, Plan, Work};
 use member_bank::{Bank, Failed};
-use units::DiskNo;
+use units::{DiskNo, Sector};
 
 /// A client's job stands at its next step.
 fn step_to(control: &mut Control, k: u8, op: u64, step: JobStep) -> Events
     requires { k < 16 }
     ensures { (p : PlanSeen) → out_of p control.new result ≡ record {
       next = put_client (control_of p control.old) k (client_at (control_of p control.old).clients k).left
-          (Busy op (step_of (numbers p.members.items) step));
+          (Busy op (step_of (numbers p.members.items) (read_of control.old.clients k) step));
       events = [];
     } }
 {
     control.settle(k, Some(Work { op, step }));
+    Events::Zero
+}
+
+/// A client's read gave a sector.
+fn take_in(control: &mut Control, k: u8, op: u64, read: Sector) -> Events
+    requires { k < 16 }
+    ensures { (p : PlanSeen) → out_of p control.new result ≡ record {
+      next = put_client (control_of p control.old) k (client_at (control_of p control.old).clients k).left
+          (Busy op (Got read));
+      events = [];
+    } }
+{
+    control.take_in(k, op, read);
     Events::Zero
 }
 
@@ -53,7 +66,8 @@ fn meet<B: Bank>(
     requires calls { calls.old + 1 < 2 ^ 64 }
     requires fits { FitsBank plan.now (B.sizes bank.old) }
     requires job { (client_at (control_of plan.now control.old).clients k).job
-        ≡ Busy work.now.op (step_of (numbers plan.now.members.items) work.now.step) }
+        ≡ Busy work.now.op (step_of (numbers plan.now.members.items)
+        (read_of control.old.clients k) work.now.step) }
     ensures made { (newest : Laid) → (x : Ended) × (got : SectorBytes)
         × MakesTrue (run_setting plan.now newest (B.sizes bank.old)) (B.log bank.old)
         (control_of plan.now control.old) calls.old (Asks k x got) (out_of plan.now control.new result) calls.new
@@ -66,12 +80,12 @@ fn meet<B: Bank>(
 {
     match control.need(plan, k, work) {
         Need::Nothing => Events::Zero,
-        Need::Done => control.answer(k, work.op, Answer::Done),
-        Need::Value(value) => control.answer(k, work.op, Answer::Value(*value)),
+        Need::Done => control.answer(k, work.op),
+        Need::Value => control.give(k, work.op),
         Need::Read(disk) => {
             *calls += 1;
             match read_row(bank, plan, work.op, disk) {
-                Ok(got) => step_to(control, k, work.op, JobStep::Got(got)),
+                Ok(read) => take_in(control, k, work.op, read),
                 Err(Failed) => drop_disk(control, disk),
             }
         }
@@ -115,7 +129,7 @@ pub fn client_part<B: Bank>(
     ensures grows { Grows (B.log bank.old) calls.old (B.log bank.new) calls.new }
     ensures cause { Counts (B.faults_of bank.old) (B.faults_of bank.new) (failed_of control.new.failed) }
 {
-    match *control.work(k) {
+    match control.work(k) {
         None => control.submit(plan, k),
         Some(work) => meet(bank, control, plan, calls, k, &work),
     }

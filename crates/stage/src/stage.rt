@@ -1,12 +1,12 @@
 //! A stage over a bank: each of its turns is one of the machine.
-ghost use Rattle.std.specs.Prelude.{◌≡◌, ◌+◌, ◌<◌, ◌≤◌, IfOk, IfErr, ◌⊎◌, ◌++◌, ℕ, length, nat_lt, nat_le, ◌||◌, ◌^◌};
+ghost use Rattle.std.specs.Prelude.{◌≡◌, ◌+◌, ◌<◌, ◌≤◌, IfOk, IfErr, ◌⊎◌, [], ◌∷◌, ◌++◌, ℕ, length, nat_lt, nat_le, ◌||◌, ◌^◌};
 ghost use Rattle.units.specs.declared.disk.Sector.{Sector as SectorBytes};
 ghost use Rattle.member_bank.specs.Told.{Keeps};
 ghost use Rattle.array_model.specs.Renewal.{FitsGeneration};
 ghost use Rattle.array_model.specs.Room.{BeginsWithRoom};
 ghost use Rattle.stage_machine.specs.Rounds.{Ended};
 ghost use Rattle.stage_machine.specs.Machine.{Monitors, Asks, Quiets, stamped};
-ghost use Rattle.control_state.specs.Controls.{listed};
+ghost use Rattle.control_state.specs.Events.{event_of, listed};
 ghost use Rattle.stage.specs.Stages.{Answered, setting_of};
 ghost use Rattle.stage.specs.Ends.{answer_of};
 ghost use Rattle.imsm_codec.specs.Mpb.{block_bytes};
@@ -21,8 +21,8 @@ use crate::client::client_part;
 use crate::monitor::monitor_part;
 use crate::open::{Opening, StageFault, control_at, plan_of};
 use crate::turned::Turned;
-use array_model::{Entry, Journal, Script};
-use control_state::{Control, Events, Plan};
+use array_model::{Answer, Entry, Event, Journal, Script};
+use control_state::{Client, Control, Events, Plan, ShortEvent, read_of};
 use member_bank::Bank;
 use std::alloc::Global;
 use std::marker::Model;
@@ -64,21 +64,37 @@ impl<B: Bank> Model for Stage<B> {
         (control_of s.plan s.control) s.calls s.journal.entries s.journal.room (B.opening s.bank) (B.log s.bank) };
 }
 
-/// Takes down what a turn enters.
-fn enter(journal: &mut Journal, stamp: u64, events: Events)
+/// Takes down an event.
+fn push(journal: &mut Journal, stamp: u64, event: ShortEvent)
+    requires { length journal.old.entries < journal.old.room }
+    ensures { journal.new ≡ record journal.old {
+      entries = journal.old.entries ++ record { stamp = stamp; event = event_of event } ∷ [];
+    } }
+{
+    journal.push(Entry {
+        stamp,
+        event: event.event(),
+    });
+}
+
+/// Takes down what a turn enters: a value that was read stands with its client.
+fn enter(journal: &mut Journal, stamp: u64, events: Events, clients: &[Client])
     requires { length journal.old.entries + 2 ≤ journal.old.room }
-    ensures { journal.new ≡ record journal.old { entries = journal.old.entries ++ stamped stamp (listed events) } }
+    ensures { journal.new ≡ record journal.old {
+      entries = journal.old.entries ++ stamped stamp (listed clients.now events);
+    } }
 {
     match events {
         Events::Zero => {}
-        Events::One(event) => journal.push(Entry { stamp, event }),
+        Events::One(event) => push(journal, stamp, event),
         Events::Two(event, other) => {
-            journal.push(Entry { stamp, event });
-            journal.push(Entry {
-                stamp,
-                event: other,
-            });
+            push(journal, stamp, event);
+            push(journal, stamp, other);
         }
+        Events::Value(op, k) => journal.push(Entry {
+            stamp,
+            event: Event::Ack(op, Answer::Value(read_of(clients, k))),
+        }),
     }
 }
 
@@ -162,7 +178,7 @@ impl<B: Bank> Stage<B> {
             &self.plan,
             &mut self.calls,
         );
-        enter(&mut self.journal, self.calls, events);
+        enter(&mut self.journal, self.calls, events, &self.control.clients);
         answer(self.control.failed)
     }
 
@@ -205,7 +221,7 @@ impl<B: Bank> Stage<B> {
             &mut self.calls,
             k,
         );
-        enter(&mut self.journal, self.calls, events);
+        enter(&mut self.journal, self.calls, events, &self.control.clients);
         answer(self.control.failed)
     }
 
@@ -225,7 +241,7 @@ impl<B: Bank> Stage<B> {
             return Turned::JournalFull;
         }
         let events = self.control.quiet(&self.plan);
-        enter(&mut self.journal, self.calls, events);
+        enter(&mut self.journal, self.calls, events, &self.control.clients);
         answer(self.control.failed)
     }
 

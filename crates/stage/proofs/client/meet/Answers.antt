@@ -7,20 +7,21 @@ use Rattle.array_model.specs.declared.journal.Answer.TheVariants.{Done, Value}
 use Rattle.stage_machine.specs.Jobs as jobs
 use Rattle.stage_machine.specs.Jobs.{client_at, row_at, value_at, Busy, NoNeed, Reads, Writes, Syncs, Answers}
 use Rattle.stage_machine.specs.Machine.{put_client}
+use Rattle.control_state.specs.Events.{read_of}
 use Rattle.control_state.specs.Seen.{plan_setting, numbers, step_of, need_of}
 use Rattle.control_state.specs.Controls.{control_of, out_of, failed_of}
 use Rattle.stage.proofs.Same.{after_write_same}
-use Rattle.control_state.specs.declared.control.Events.TheVariants.{Zero}
+use Rattle.control_state.specs.declared.event.Events.TheVariants.{Zero}
 use Rattle.stage.proofs.Asking.{needed_has, row_below, met_none, met_some}
 use Rattle.stage.proofs.client.meet.Goals as goal
 
 pub read_row-requires-clause-disk : goal.read_row-requires-clause-disk
-read_row-requires-clause-disk g c = (c.requires.fits.members_there c.in-Read.disk.0 (needed_has c.args.plan.now (control_of c.args.plan.now c.args.control.now) c.args.k c.args.work.now.op c.in-Read.disk.0 c.args.work.now.step (Reads c.in-Read.disk.0) (sym (ap (need_of (numbers c.args.plan.now.members.items)) c.in-Read.is) ∙ c.need.ensures) refl)).0
+read_row-requires-clause-disk g c = (c.requires.fits.members_there c.in-Read.disk.0 (needed_has c.args.plan.now (control_of c.args.plan.now c.args.control.now) c.args.k (read_of c.args.control.now.clients c.args.k) c.args.work.now.op c.in-Read.disk.0 c.args.work.now.step (Reads c.in-Read.disk.0) (sym (ap (need_of (numbers c.args.plan.now.members.items) (read_of c.args.control.now.clients c.args.k)) c.in-Read.is) ∙ c.need.ensures (read_of c.args.control.now.clients c.args.k)) refl)).0
 
 pub read_row-requires-clause-room : goal.read_row-requires-clause-room
 read_row-requires-clause-room g c =
     let row = row_below c.args.plan.now c.args.work.now.op c.requires.fits.some in
-    let room = (c.requires.fits.members_there c.in-Read.disk.0 (needed_has c.args.plan.now (control_of c.args.plan.now c.args.control.now) c.args.k c.args.work.now.op c.in-Read.disk.0 c.args.work.now.step (Reads c.in-Read.disk.0) (sym (ap (need_of (numbers c.args.plan.now.members.items)) c.in-Read.is) ∙ c.need.ensures) refl)).1 in
+    let room = (c.requires.fits.members_there c.in-Read.disk.0 (needed_has c.args.plan.now (control_of c.args.plan.now c.args.control.now) c.args.k (read_of c.args.control.now.clients c.args.k) c.args.work.now.op c.in-Read.disk.0 c.args.work.now.step (Reads c.in-Read.disk.0) (sym (ap (need_of (numbers c.args.plan.now.members.items) (read_of c.args.control.now.clients c.args.k)) c.in-Read.is) ∙ c.need.ensures (read_of c.args.control.now.clients c.args.k)) refl)).1 in
     omega (arith, row, room)
 
 pub read_row-requires-clause-fits : goal.read_row-requires-clause-fits
@@ -30,12 +31,12 @@ read_row-requires-clause-fits g c =
     omega (arith, row, below)
 
 pub write_row-requires-clause-disk : goal.write_row-requires-clause-disk
-write_row-requires-clause-disk g c = (c.requires.fits.members_there c.in-Write.disk.0 (needed_has c.args.plan.now (control_of c.args.plan.now c.args.control.now) c.args.k c.args.work.now.op c.in-Write.disk.0 c.args.work.now.step (Writes c.in-Write.disk.0 (drop c.in-Write.rest (numbers c.args.plan.now.members.items))) (sym (ap (need_of (numbers c.args.plan.now.members.items)) c.in-Write.is) ∙ c.need.ensures) refl)).0
+write_row-requires-clause-disk g c = (c.requires.fits.members_there c.in-Write.disk.0 (needed_has c.args.plan.now (control_of c.args.plan.now c.args.control.now) c.args.k (read_of c.args.control.now.clients c.args.k) c.args.work.now.op c.in-Write.disk.0 c.args.work.now.step (Writes c.in-Write.disk.0 (drop c.in-Write.rest (numbers c.args.plan.now.members.items))) (sym (ap (need_of (numbers c.args.plan.now.members.items) (read_of c.args.control.now.clients c.args.k)) c.in-Write.is) ∙ c.need.ensures (read_of c.args.control.now.clients c.args.k)) refl)).0
 
 pub write_row-requires-clause-room : goal.write_row-requires-clause-room
 write_row-requires-clause-room g c =
     let row = row_below c.args.plan.now c.args.work.now.op c.requires.fits.some in
-    let room = (c.requires.fits.members_there c.in-Write.disk.0 (needed_has c.args.plan.now (control_of c.args.plan.now c.args.control.now) c.args.k c.args.work.now.op c.in-Write.disk.0 c.args.work.now.step (Writes c.in-Write.disk.0 (drop c.in-Write.rest (numbers c.args.plan.now.members.items))) (sym (ap (need_of (numbers c.args.plan.now.members.items)) c.in-Write.is) ∙ c.need.ensures) refl)).1 in
+    let room = (c.requires.fits.members_there c.in-Write.disk.0 (needed_has c.args.plan.now (control_of c.args.plan.now c.args.control.now) c.args.k (read_of c.args.control.now.clients c.args.k) c.args.work.now.op c.in-Write.disk.0 c.args.work.now.step (Writes c.in-Write.disk.0 (drop c.in-Write.rest (numbers c.args.plan.now.members.items))) (sym (ap (need_of (numbers c.args.plan.now.members.items) (read_of c.args.control.now.clients c.args.k)) c.in-Write.is) ∙ c.need.ensures (read_of c.args.control.now.clients c.args.k)) refl)).1 in
     omega (arith, row, room)
 
 pub write_row-requires-clause-fits : goal.write_row-requires-clause-fits
@@ -45,7 +46,7 @@ write_row-requires-clause-fits g c =
     omega (arith, row, below)
 
 pub sync-requires : goal.sync-requires
-sync-requires g c = (c.requires.fits.members_there c.in-Sync.disk.0 (needed_has c.args.plan.now (control_of c.args.plan.now c.args.control.now) c.args.k c.args.work.now.op c.in-Sync.disk.0 c.args.work.now.step (Syncs c.in-Sync.disk.0 (drop c.in-Sync.rest (numbers c.args.plan.now.members.items))) (sym (ap (need_of (numbers c.args.plan.now.members.items)) c.in-Sync.is) ∙ c.need.ensures) refl)).0
+sync-requires g c = (c.requires.fits.members_there c.in-Sync.disk.0 (needed_has c.args.plan.now (control_of c.args.plan.now c.args.control.now) c.args.k (read_of c.args.control.now.clients c.args.k) c.args.work.now.op c.in-Sync.disk.0 c.args.work.now.step (Syncs c.in-Sync.disk.0 (drop c.in-Sync.rest (numbers c.args.plan.now.members.items))) (sym (ap (need_of (numbers c.args.plan.now.members.items) (read_of c.args.control.now.clients c.args.k)) c.in-Sync.is) ∙ c.need.ensures (read_of c.args.control.now.clients c.args.k)) refl)).0
 
 pub returns-in-Nothing-clause-made : goal.returns-in-Nothing-clause-made
 returns-in-Nothing-clause-made g c = λ newest.
@@ -56,8 +57,8 @@ returns-in-Nothing-clause-made g c = λ newest.
     let members = numbers p.members.items in (
       record { went = true; stored = 0 },
       sector_of 0,
-      met_none p newest sizes told C c.args.calls.now c.args.k (record { went = true; stored = 0 }) (sector_of 0) c.args.work.now.op (step_of members c.args.work.now.step) (NoNeed) (out_of p c.args.control.now Zero) (ap failed_of c.requires.live) c.requires.job
-          (sym (ap (need_of (numbers c.args.plan.now.members.items)) c.in-Nothing.is) ∙ c.need.ensures) refl (refl) (g.B.Bank.opening c.args.bank.now),
+      met_none p newest sizes told C c.args.calls.now c.args.k (record { went = true; stored = 0 }) (sector_of 0) c.args.work.now.op (step_of members (read_of c.args.control.now.clients c.args.k) c.args.work.now.step) (NoNeed) (out_of p c.args.control.now Zero) (ap failed_of c.requires.live) c.requires.job
+          (sym (ap (need_of (numbers c.args.plan.now.members.items) (read_of c.args.control.now.clients c.args.k)) c.in-Nothing.is) ∙ c.need.ensures (read_of c.args.control.now.clients c.args.k)) refl (refl) (g.B.Bank.opening c.args.bank.now),
     )
 
 pub returns-in-Done-clause-made : goal.returns-in-Done-clause-made
@@ -69,8 +70,8 @@ returns-in-Done-clause-made g c = λ newest.
     let members = numbers p.members.items in (
       record { went = true; stored = 0 },
       sector_of 0,
-      met_none p newest sizes told C c.args.calls.now c.args.k (record { went = true; stored = 0 }) (sector_of 0) c.args.work.now.op (step_of members c.args.work.now.step) (Answers Done) (out_of p c.answer.new.self c.answer.result) (ap failed_of c.requires.live) c.requires.job
-          (sym (ap (need_of (numbers c.args.plan.now.members.items)) c.in-Done.is) ∙ c.need.ensures) refl (c.answer.ensures p) (g.B.Bank.opening c.args.bank.now),
+      met_none p newest sizes told C c.args.calls.now c.args.k (record { went = true; stored = 0 }) (sector_of 0) c.args.work.now.op (step_of members (read_of c.args.control.now.clients c.args.k) c.args.work.now.step) (Answers Done) (out_of p c.answer.new.self c.answer.result) (ap failed_of c.requires.live) c.requires.job
+          (sym (ap (need_of (numbers c.args.plan.now.members.items) (read_of c.args.control.now.clients c.args.k)) c.in-Done.is) ∙ c.need.ensures (read_of c.args.control.now.clients c.args.k)) refl (c.answer.ensures p) (g.B.Bank.opening c.args.bank.now),
     )
 
 pub returns-in-Value-clause-made : goal.returns-in-Value-clause-made
@@ -82,8 +83,8 @@ returns-in-Value-clause-made g c = λ newest.
     let members = numbers p.members.items in (
       record { went = true; stored = 0 },
       sector_of 0,
-      met_none p newest sizes told C c.args.calls.now c.args.k (record { went = true; stored = 0 }) (sector_of 0) c.args.work.now.op (step_of members c.args.work.now.step) (Answers (Value c.in-Value.value.now)) (out_of p c.answer-in-Value.new.self c.answer-in-Value.result) (ap failed_of c.requires.live) c.requires.job
-          (sym (ap (need_of (numbers c.args.plan.now.members.items)) c.in-Value.is) ∙ c.need.ensures) refl (c.answer-in-Value.ensures p) (g.B.Bank.opening c.args.bank.now),
+      met_none p newest sizes told C c.args.calls.now c.args.k (record { went = true; stored = 0 }) (sector_of 0) c.args.work.now.op (step_of members (read_of c.args.control.now.clients c.args.k) c.args.work.now.step) (Answers (Value (read_of c.args.control.now.clients c.args.k))) (out_of p c.give.new.self c.give.result) (ap failed_of c.requires.live) c.requires.job
+          (sym (ap (need_of (numbers c.args.plan.now.members.items) (read_of c.args.control.now.clients c.args.k)) c.in-Value.is) ∙ c.need.ensures (read_of c.args.control.now.clients c.args.k)) refl (c.give.ensures p) (g.B.Bank.opening c.args.bank.now),
     )
 
 pub returns-in-Ok-clause-made : goal.returns-in-Ok-clause-made
@@ -95,12 +96,12 @@ returns-in-Ok-clause-made g c = λ newest.
     let members = numbers p.members.items in
     let now = g.B.Bank.log c.read_row.new.bank in (
       record { went = true; stored = 0 },
-      c.in-Ok.got,
-      met_some p newest sizes told now C c.args.calls.now c.args.k (record { went = true; stored = 0 }) (c.in-Ok.got) c.args.work.now.op (step_of members c.args.work.now.step) (Reads c.in-Read.disk.0) (out_of p c.step_to.new.control c.step_to.result) (record { disk = c.in-Read.disk.0; what = Read (p.pba + row_at (plan_setting p) c.args.work.now.op); went = true }) (ap failed_of c.requires.live) c.requires.job
-          (sym (ap (need_of (numbers c.args.plan.now.members.items)) c.in-Read.is) ∙ c.need.ensures) refl (c.step_to.ensures p)
+      c.in-Ok.read,
+      met_some p newest sizes told now C c.args.calls.now c.args.k (record { went = true; stored = 0 }) c.in-Ok.read c.args.work.now.op (step_of members (read_of c.args.control.now.clients c.args.k) c.args.work.now.step) (Reads c.in-Read.disk.0) (out_of p c.take_in.new.control c.take_in.result) (record { disk = c.in-Read.disk.0; what = Read (p.pba + row_at (plan_setting p) c.args.work.now.op); went = true }) (ap failed_of c.requires.live) c.requires.job
+          (sym (ap (need_of (numbers c.args.plan.now.members.items) (read_of c.args.control.now.clients c.args.k)) c.in-Read.is) ∙ c.need.ensures (read_of c.args.control.now.clients c.args.k)) refl (c.take_in.ensures p)
           (subst (λ (b : Bool). Logs told now (record { disk = c.in-Read.disk.0; what = Read (p.pba + row_at (plan_setting p) c.args.work.now.op); went = b })) (ap is_ok c.in-Ok.is) c.read_row.ensures.logs)
           (g.B.Bank.opening c.read_row.new.bank)
-          (λ place read went. let same : p.pba + row_at (plan_setting p) c.args.work.now.op ≡ place = cc read in subst (λ (z : ℕ). Gives (g.B.Bank.opening c.read_row.new.bank) now c.in-Read.disk.0 z c.in-Ok.got) same c.in-Ok.ensures.gives),
+          (λ place read went. let same : p.pba + row_at (plan_setting p) c.args.work.now.op ≡ place = cc read in subst (λ (z : ℕ). Gives (g.B.Bank.opening c.read_row.new.bank) now c.in-Read.disk.0 z c.in-Ok.read) same c.in-Ok.ensures.gives),
     )
 
 pub returns-in-Err-clause-made : goal.returns-in-Err-clause-made
@@ -113,8 +114,8 @@ returns-in-Err-clause-made g c = λ newest.
     let now = g.B.Bank.log c.read_row.new.bank in (
       record { went = false; stored = 0 },
       sector_of 0,
-      met_some p newest sizes told now C c.args.calls.now c.args.k (record { went = false; stored = 0 }) (sector_of 0) c.args.work.now.op (step_of members c.args.work.now.step) (Reads c.in-Read.disk.0) (out_of p c.drop_disk.new.control c.drop_disk.result) (record { disk = c.in-Read.disk.0; what = Read (p.pba + row_at (plan_setting p) c.args.work.now.op); went = false }) (ap failed_of c.requires.live) c.requires.job
-          (sym (ap (need_of (numbers c.args.plan.now.members.items)) c.in-Read.is) ∙ c.need.ensures) refl (c.drop_disk.ensures p)
+      met_some p newest sizes told now C c.args.calls.now c.args.k (record { went = false; stored = 0 }) (sector_of 0) c.args.work.now.op (step_of members (read_of c.args.control.now.clients c.args.k) c.args.work.now.step) (Reads c.in-Read.disk.0) (out_of p c.drop_disk.new.control c.drop_disk.result) (record { disk = c.in-Read.disk.0; what = Read (p.pba + row_at (plan_setting p) c.args.work.now.op); went = false }) (ap failed_of c.requires.live) c.requires.job
+          (sym (ap (need_of (numbers c.args.plan.now.members.items) (read_of c.args.control.now.clients c.args.k)) c.in-Read.is) ∙ c.need.ensures (read_of c.args.control.now.clients c.args.k)) refl (c.drop_disk.ensures p)
           (subst (λ (b : Bool). Logs told now (record { disk = c.in-Read.disk.0; what = Read (p.pba + row_at (plan_setting p) c.args.work.now.op); went = b })) (ap is_ok c.in-Err.is) c.read_row.ensures.logs) (g.B.Bank.opening c.read_row.new.bank) (λ place read went. absurd (cc went)),
     )
 
@@ -128,8 +129,8 @@ returns-then-write_row-clause-made g c = λ newest.
     let now = g.B.Bank.log c.write_row.new.bank in (
       record { went = true; stored = c.write_row.ensures.logs.0 },
       sector_of 0,
-      met_some p newest sizes told now C c.args.calls.now c.args.k (record { went = true; stored = c.write_row.ensures.logs.0 }) (sector_of 0) c.args.work.now.op (step_of members c.args.work.now.step) (Writes c.in-Write.disk.0 (drop c.in-Write.rest members)) (out_of p c.step_to-then-write_row.new.control c.step_to-then-write_row.result) (record { disk = c.in-Write.disk.0; what = Write (p.pba + row_at (plan_setting p) c.args.work.now.op) (value_at (plan_setting p) c.args.work.now.op ∷ []) (1); went = true }) (ap failed_of c.requires.live) c.requires.job
-          (sym (ap (need_of (numbers c.args.plan.now.members.items)) c.in-Write.is) ∙ c.need.ensures) refl (c.step_to-then-write_row.ensures p ∙ ap (λ (s : jobs.JobStep). record { next = put_client C c.args.k (client_at C.clients c.args.k).left (Busy c.args.work.now.op s); events = [] }) (c.after_write.ensures ∙ after_write_same p newest sizes (drop c.in-Write.rest members)))
+      met_some p newest sizes told now C c.args.calls.now c.args.k (record { went = true; stored = c.write_row.ensures.logs.0 }) (sector_of 0) c.args.work.now.op (step_of members (read_of c.args.control.now.clients c.args.k) c.args.work.now.step) (Writes c.in-Write.disk.0 (drop c.in-Write.rest members)) (out_of p c.step_to.new.control c.step_to.result) (record { disk = c.in-Write.disk.0; what = Write (p.pba + row_at (plan_setting p) c.args.work.now.op) (value_at (plan_setting p) c.args.work.now.op ∷ []) (1); went = true }) (ap failed_of c.requires.live) c.requires.job
+          (sym (ap (need_of (numbers c.args.plan.now.members.items) (read_of c.args.control.now.clients c.args.k)) c.in-Write.is) ∙ c.need.ensures (read_of c.args.control.now.clients c.args.k)) refl (c.step_to.ensures p ∙ ap (λ (s : jobs.JobStep). record { next = put_client C c.args.k (client_at C.clients c.args.k).left (Busy c.args.work.now.op s); events = [] }) (c.after_write.ensures (read_of c.args.control.now.clients c.args.k) ∙ after_write_same p newest sizes (drop c.in-Write.rest members)))
           (subst (λ (b : Bool). Logs told now (record { disk = c.in-Write.disk.0; what = Write (p.pba + row_at (plan_setting p) c.args.work.now.op) (value_at (plan_setting p) c.args.work.now.op ∷ []) (if b then 1 else c.write_row.ensures.logs.0); went = b })) c.if-write_row.true c.write_row.ensures.logs.1) (g.B.Bank.opening c.write_row.new.bank) (λ place read went. absurd (cc read)),
     )
 
@@ -143,8 +144,8 @@ returns-else-write_row-clause-made g c = λ newest.
     let now = g.B.Bank.log c.write_row.new.bank in (
       record { went = false; stored = c.write_row.ensures.logs.0 },
       sector_of 0,
-      met_some p newest sizes told now C c.args.calls.now c.args.k (record { went = false; stored = c.write_row.ensures.logs.0 }) (sector_of 0) c.args.work.now.op (step_of members c.args.work.now.step) (Writes c.in-Write.disk.0 (drop c.in-Write.rest members)) (out_of p c.drop_disk-else-write_row.new.control c.drop_disk-else-write_row.result) (record { disk = c.in-Write.disk.0; what = Write (p.pba + row_at (plan_setting p) c.args.work.now.op) (value_at (plan_setting p) c.args.work.now.op ∷ []) (c.write_row.ensures.logs.0); went = false }) (ap failed_of c.requires.live) c.requires.job
-          (sym (ap (need_of (numbers c.args.plan.now.members.items)) c.in-Write.is) ∙ c.need.ensures) refl (c.drop_disk-else-write_row.ensures p)
+      met_some p newest sizes told now C c.args.calls.now c.args.k (record { went = false; stored = c.write_row.ensures.logs.0 }) (sector_of 0) c.args.work.now.op (step_of members (read_of c.args.control.now.clients c.args.k) c.args.work.now.step) (Writes c.in-Write.disk.0 (drop c.in-Write.rest members)) (out_of p c.drop_disk-else-write_row.new.control c.drop_disk-else-write_row.result) (record { disk = c.in-Write.disk.0; what = Write (p.pba + row_at (plan_setting p) c.args.work.now.op) (value_at (plan_setting p) c.args.work.now.op ∷ []) (c.write_row.ensures.logs.0); went = false }) (ap failed_of c.requires.live) c.requires.job
+          (sym (ap (need_of (numbers c.args.plan.now.members.items) (read_of c.args.control.now.clients c.args.k)) c.in-Write.is) ∙ c.need.ensures (read_of c.args.control.now.clients c.args.k)) refl (c.drop_disk-else-write_row.ensures p)
           (subst (λ (b : Bool). Logs told now (record { disk = c.in-Write.disk.0; what = Write (p.pba + row_at (plan_setting p) c.args.work.now.op) (value_at (plan_setting p) c.args.work.now.op ∷ []) (if b then 1 else c.write_row.ensures.logs.0); went = b })) c.if-write_row.false c.write_row.ensures.logs.1) (g.B.Bank.opening c.write_row.new.bank) (λ place read went. absurd (cc read)),
     )
 
@@ -158,8 +159,8 @@ returns-in-Ok-sync-clause-made g c = λ newest.
     let now = g.B.Bank.log c.sync.new.self in (
       record { went = true; stored = 0 },
       sector_of 0,
-      met_some p newest sizes told now C c.args.calls.now c.args.k (record { went = true; stored = 0 }) (sector_of 0) c.args.work.now.op (step_of members c.args.work.now.step) (Syncs c.in-Sync.disk.0 (drop c.in-Sync.rest members)) (out_of p c.step_to-in-Ok-sync.new.control c.step_to-in-Ok-sync.result) (record { disk = c.in-Sync.disk.0; what = Sync; went = true }) (ap failed_of c.requires.live) c.requires.job
-          (sym (ap (need_of (numbers c.args.plan.now.members.items)) c.in-Sync.is) ∙ c.need.ensures) refl (c.step_to-in-Ok-sync.ensures p ∙ ap (λ (s : jobs.JobStep). record { next = put_client C c.args.k (client_at C.clients c.args.k).left (Busy c.args.work.now.op s); events = [] }) c.after_sync.ensures)
+      met_some p newest sizes told now C c.args.calls.now c.args.k (record { went = true; stored = 0 }) (sector_of 0) c.args.work.now.op (step_of members (read_of c.args.control.now.clients c.args.k) c.args.work.now.step) (Syncs c.in-Sync.disk.0 (drop c.in-Sync.rest members)) (out_of p c.step_to-in-Ok-sync.new.control c.step_to-in-Ok-sync.result) (record { disk = c.in-Sync.disk.0; what = Sync; went = true }) (ap failed_of c.requires.live) c.requires.job
+          (sym (ap (need_of (numbers c.args.plan.now.members.items) (read_of c.args.control.now.clients c.args.k)) c.in-Sync.is) ∙ c.need.ensures (read_of c.args.control.now.clients c.args.k)) refl (c.step_to-in-Ok-sync.ensures p ∙ ap (λ (s : jobs.JobStep). record { next = put_client C c.args.k (client_at C.clients c.args.k).left (Busy c.args.work.now.op s); events = [] }) (c.after_sync.ensures (read_of c.args.control.now.clients c.args.k)))
           (subst (λ (b : Bool). Logs told now (record { disk = c.in-Sync.disk.0; what = Sync; went = b })) (ap is_ok c.in-Ok-sync.is) c.sync.ensures.logs) (g.B.Bank.opening c.sync.new.self) (λ place read went. absurd (cc read)),
     )
 
@@ -173,7 +174,7 @@ returns-in-Err-sync-clause-made g c = λ newest.
     let now = g.B.Bank.log c.sync.new.self in (
       record { went = false; stored = 0 },
       sector_of 0,
-      met_some p newest sizes told now C c.args.calls.now c.args.k (record { went = false; stored = 0 }) (sector_of 0) c.args.work.now.op (step_of members c.args.work.now.step) (Syncs c.in-Sync.disk.0 (drop c.in-Sync.rest members)) (out_of p c.drop_disk-in-Err-sync.new.control c.drop_disk-in-Err-sync.result) (record { disk = c.in-Sync.disk.0; what = Sync; went = false }) (ap failed_of c.requires.live) c.requires.job
-          (sym (ap (need_of (numbers c.args.plan.now.members.items)) c.in-Sync.is) ∙ c.need.ensures) refl (c.drop_disk-in-Err-sync.ensures p)
+      met_some p newest sizes told now C c.args.calls.now c.args.k (record { went = false; stored = 0 }) (sector_of 0) c.args.work.now.op (step_of members (read_of c.args.control.now.clients c.args.k) c.args.work.now.step) (Syncs c.in-Sync.disk.0 (drop c.in-Sync.rest members)) (out_of p c.drop_disk-in-Err-sync.new.control c.drop_disk-in-Err-sync.result) (record { disk = c.in-Sync.disk.0; what = Sync; went = false }) (ap failed_of c.requires.live) c.requires.job
+          (sym (ap (need_of (numbers c.args.plan.now.members.items) (read_of c.args.control.now.clients c.args.k)) c.in-Sync.is) ∙ c.need.ensures (read_of c.args.control.now.clients c.args.k)) refl (c.drop_disk-in-Err-sync.ensures p)
           (subst (λ (b : Bool). Logs told now (record { disk = c.in-Sync.disk.0; what = Sync; went = b })) (ap is_ok c.in-Err-sync.is) c.sync.ensures.logs) (g.B.Bank.opening c.sync.new.self) (λ place read went. absurd (cc read)),
     )

@@ -10,4 +10,4 @@ returns c =
     let cs = c.args.self.now.clients in
     let below : c.args.k < length cs = omega (arith, c.if-k-ge-CLIENTS.false) in
     ap (λ (xs : List jobs.Client). record (control_of p c.args.self.now) { clients = xs })
-    (passed_same p cs c.args.k _ _ below (moved_same p (get_or cs c.args.k _) c.deref.result.now c.next_place.result c.deref.ensures.value c.next_place.ensures))
+    (passed_same p cs c.args.k _ _ below (moved_same p (get_or cs c.args.k _) c.deref.result.now c.next_place-next.result c.deref.ensures.value c.next_place-next.ensures))

@@ -4,4 +4,4 @@ use Rattle.control_state.proofs.Members.{still_writing}
 use Rattle.control_state.proofs.plan.Plan.after_write.Goals as goal
 
 pub returns-then-rest-len : goal.returns-then-rest-len
-returns-then-rest-len c = still_writing (plan_setting c.args.self.now) c.args.self.now.members.items c.args.rest (omega (arith, c.len.ensures.value, c.if-rest-len.true))
+returns-then-rest-len c = λ read. still_writing (plan_setting c.args.self.now) c.args.self.now.members.items c.args.rest (omega (arith, c.len.ensures.value, c.if-rest-len.true))

@@ -28,7 +28,7 @@ invariant_of-self g c =
     let m = c.client_part-events.ensures.made newest in
     subst (λ (sz : List ℕ). IsStage (run_setting p newest sz) p sz out.next c.client_part-events.new.calls c.enter.new.journal.entries c.enter.new.journal.room held now) (sym c.client_part-events.ensures.sizes)
     (subst (λ (j : JournalState). IsStage (run_setting p newest sizes) p sizes out.next c.client_part-events.new.calls j.entries j.room held now) (sym c.enter.ensures)
-    (stage_goes (run_setting p newest sizes) p sizes C made c.self.inside.journal.entries c.self.inside.journal.room contents told (Asks c.args.k m.0 m.1) out c.client_part-events.new.calls _ held now c.self.invariant free (entered_within c.self.inside.journal.room made c.self.inside.journal.entries c.client_part-events.new.calls c.client_part-events.result (sym c.is_full.ensures ∙ c.if-is_full.false)) m.2 c.client_part-events.ensures.opening refl))
+    (stage_goes (run_setting p newest sizes) p sizes C made c.self.inside.journal.entries c.self.inside.journal.room contents told (Asks c.args.k m.0 m.1) out c.client_part-events.new.calls _ held now c.self.invariant free (entered_within c.self.inside.journal.room made c.self.inside.journal.entries c.client_part-events.new.calls c.client_part-events.new.control.clients c.client_part-events.result (sym c.is_full.ensures ∙ c.if-is_full.false)) m.2 c.client_part-events.ensures.opening refl))
 
 -- a call failed before
 pub returns-in-Some-clause-answered : goal.returns-in-Some-clause-answered

@@ -29,7 +29,7 @@ invariant_of-self g c =
     subst (λ (sz : List ℕ). IsStage (run_setting p newest sz) p sz out.next c.monitor_part-events.new.calls c.enter.new.journal.entries c.enter.new.journal.room held now) (sym c.monitor_part-events.ensures.sizes)
     (subst (λ (j : JournalState). IsStage (run_setting p newest sizes) p sizes out.next c.monitor_part-events.new.calls j.entries j.room held now) (sym c.enter.ensures)
     (stage_goes (run_setting p newest sizes) p sizes C made c.self.inside.journal.entries c.self.inside.journal.room contents told (Monitors m.0) out c.monitor_part-events.new.calls _ held now c.self.invariant free
-    (entered_within c.self.inside.journal.room made c.self.inside.journal.entries c.monitor_part-events.new.calls c.monitor_part-events.result (sym c.is_full.ensures ∙ c.if-is_full.false))
+    (entered_within c.self.inside.journal.room made c.self.inside.journal.entries c.monitor_part-events.new.calls c.monitor_part-events.new.control.clients c.monitor_part-events.result (sym c.is_full.ensures ∙ c.if-is_full.false))
     (monitor_true (run_setting p newest sizes) told C made m.0 out c.monitor_part-events.new.calls held now m.1) c.monitor_part-events.ensures.opening refl))
 
 -- a call failed before

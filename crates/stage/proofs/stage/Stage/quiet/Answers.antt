@@ -31,7 +31,7 @@ invariant_of-self g c =
     let makes = makes_none (run_setting p newest sizes) told C made Quiets out (ap failed_of c.in_default.is) refl (c.quiet-events.ensures ∙ quiet_same p newest sizes C C.state) in
     subst (λ (j : JournalState). IsStage (run_setting p newest sizes) p sizes out.next made j.entries j.room contents told) (sym c.enter.ensures)
     (stage_goes (run_setting p newest sizes) p sizes C made c.self.inside.journal.entries c.self.inside.journal.room contents told Quiets out made _ contents told c.self.invariant free
-    (entered_within c.self.inside.journal.room made c.self.inside.journal.entries made c.quiet-events.result (sym c.is_full.ensures ∙ c.if-is_full.false))
+    (entered_within c.self.inside.journal.room made c.self.inside.journal.entries made c.quiet-events.new.self.clients c.quiet-events.result (sym c.is_full.ensures ∙ c.if-is_full.false))
     (silent_true (run_setting p newest sizes) told C made Quiets out made contents told (called_live (run_setting p newest sizes) C Quiets (ap failed_of c.in_default.is)) makes) (λ opening at. at) refl)
 
 -- a call failed before
