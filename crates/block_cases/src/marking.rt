@@ -11,7 +11,8 @@ use arrayvec::ArrayVec;
 use imsm_buffer::{MpbBuf, NoRoom};
 use imsm_codec::check;
 use imsm_edit::{
-    EditFacts, mark_clean, mark_dirty, mark_failed, mark_in_sync, mark_point, start_edit, start_pass,
+    EditFacts, mark_clean, mark_dirty, mark_failed, mark_in_sync, mark_point, start_edit,
+    start_pass,
 };
 use imsm_view::volume_of;
 use units::VolNo;
