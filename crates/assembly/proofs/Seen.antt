@@ -1,6 +1,6 @@
 -- What is seen of a disk, and that it stays so while other disks are looked at.
 use Rattle.std.proofs.Common.{◌≡◌, ◌≢◌, ◌≤◌, ◌<◌, ◌+◌, ℕ, suc, Bool, List, [], ◌∷◌, ◌++◌, length, Option, Some, refl, sym, ◌∙◌, ap, append_assoc, subst, arith}
-use Rattle.std.proofs.lemmas.List.{length-append}
+use Rattle.std.proofs.lemmas.List.{append-nil, length-append}
 use Rattle.std.specs.Prelude.{IfSome, slice_get, slice_index, ◌↔◌}
 use Rattle.units.specs.declared.disk.Sector.{Sector}
 use Rattle.units.specs.declared.disk.Serial.{Serial}
@@ -12,7 +12,7 @@ use Rattle.member_bank.specs.Told.{Keeps}
 use Rattle.mpb_store.specs.declared.answer.Found.{Found}
 use Rattle.mpb_store.specs.declared.answer.Found.TheVariants as found
 use Rattle.mpb_store.specs.Answers.{IsFound, bytes_on}
-use Rattle.mpb_store.specs.Banks.{IsAnswerOn, LogsLook}
+use Rattle.mpb_store.specs.Banks.{IsAnswerOn, LogsLook, sector_after}
 use Rattle.container.specs.declared.seen.Seen.{Seen}
 use Rattle.container.specs.declared.seen.SeenAs.{SeenAs}
 use Rattle.container.specs.declared.seen.SeenAs.TheVariants.{Whole, Blank, Torn, Unread}
@@ -46,9 +46,9 @@ look_more : (n d : ℕ) (opening : Option (List (List Sector))) (old new : Optio
 look_more n d opening old new failed look all is = let (first, reads, anchor, was, laid, each, stood) = look all is in (first, reads, was, laid)
 
 -- what was seen stays seen while a disk is looked at
-pub seen_later : {serials : List Serial} {sizes : List ℕ} {opening next : Option (List (List Sector))} {log more : Option (List Call)} {before mid now : ℕ → ℕ} {k : ℕ} {s : Seen} (n d : ℕ) (failed : Bool)
-    → Keeps opening next → LogsLook n d next log more failed → ((j : ℕ) → mid j ≤ now j) → IsSeen serials sizes opening log before mid k s → IsSeen serials sizes next more before now k s
-seen_later {next = next} {log} {more} {before} {mid} {now} {k} n d failed keeps look later seen = record {
+pub seen_later : {serials : List Serial} {sizes : List ℕ} {opening next : Option (List (List Sector))} {old log more : Option (List Call)} {before mid now : ℕ → ℕ} {k : ℕ} {s : Seen} (n d : ℕ) (failed : Bool)
+    → Keeps opening next → LogsLook n d next log more failed → ((j : ℕ) → mid j ≤ now j) → IsSeen serials sizes opening old log before mid k s → IsSeen serials sizes next old more before now k s
+seen_later {next = next} {log = log} {more} {before} {mid} {now} {k} n d failed keeps look later seen = record {
   disk = seen.disk;
   serial = seen.serial;
   sectors = seen.sectors;
@@ -57,15 +57,16 @@ seen_later {next = next} {log} {more} {before} {mid} {now} {k} n d failed keeps 
   small = seen.small;
   unread = λ is. rose_on (before k) (before k) (mid k) (now k) (omega arith) (seen.unread is) (later k);
   told = λ o all is known.
-      let (first, reads, was, laid) = look_more n d next log more failed look all known in
-      let (front, rest, split, answer) = seen.told o first (keeps o is) was in
-      (front, rest ++ reads, laid ∙ ap (λ (l : List Call). l ++ reads) split ∙ append_assoc front rest reads, answer);
+      let (all_before, reads, was, laid) = look_more n d next log more failed look all known in
+      let (first, since, rest, told, split, answer) = seen.told o all_before (keeps o is) was in
+      (first, since, rest ++ reads, told, laid ∙ ap (λ (l : List Call). l ++ reads) split ∙ append_assoc (first ++ since) rest reads, answer);
 }
 
--- the count rose since an earlier moment too
-pub seen_since : {serials other : List Serial} {sizes others : List ℕ} {opening : Option (List (List Sector))} {log : Option (List Call)} {before mid now : ℕ → ℕ} {k : ℕ} {s : Seen}
-    → other ≡ serials → others ≡ sizes → ((j : ℕ) → before j ≤ mid j) → IsSeen other others opening log mid now k s → IsSeen serials sizes opening log before now k s
-seen_since {before = before} {mid} {now} {k} {s} named sized later seen = record {
+-- it was seen since an earlier moment too, behind which there are calls
+pub seen_since : {serials other : List Serial} {sizes others : List ℕ} {opening : Option (List (List Sector))} {earlier old log : Option (List Call)} {before mid now : ℕ → ℕ} {k : ℕ} {s : Seen}
+    → other ≡ serials → others ≡ sizes → ((all : List Call) → old ≡ Some all → (first since : List Call) × (earlier ≡ Some first) × (all ≡ first ++ since)) → ((j : ℕ) → before j ≤ mid j)
+    → IsSeen other others opening old log mid now k s → IsSeen serials sizes opening earlier log before now k s
+seen_since {before = before} {mid} {now} {k} {s} named sized behind later seen = record {
   disk = seen.disk;
   serial = subst (λ (l : List Serial). slice_get l k ≡ Some s.serial) named seen.serial;
   sectors = seen.sectors ∙ ap (λ (l : List ℕ). slice_index l k) sized;
@@ -73,7 +74,17 @@ seen_since {before = before} {mid} {now} {k} {s} named sized later seen = record
   possible = seen.possible;
   small = seen.small;
   unread = λ is. rose_on (before k) (mid k) (now k) (now k) (later k) (seen.unread is) (omega arith);
-  told = seen.told;
+  told = λ o all is known.
+      let (first, since, rest, told, split, answer) = seen.told o all is known in
+      let (front, more, was, laid) = behind first told in
+      let joined : first ++ since ≡ front ++ (more ++ since) = ap (λ (l : List Call). l ++ since) laid ∙ append_assoc front more since in (
+        front,
+        more ++ since,
+        rest,
+        was,
+        split ∙ ap (λ (l : List Call). l ++ rest) joined,
+        subst (λ (l : List Call). IsAnswerOn s.serial.0 s.sectors (sector_after o l k) (found_of s.holds) (bytes_of s.holds)) joined answer,
+      );
 }
 
 -- LOOKS
@@ -85,6 +96,15 @@ look_later n d opening next old new failed keeps look = λ all is. let (first, r
 looks_later : (sizes : List ℕ) (opening next : Option (List (List Sector))) (k : ℕ) (old new : Option (List Call)) (failed : List Bool) → Keeps opening next → Looks sizes opening k old failed new → Looks sizes next k old failed new
 looks_later sizes opening next k old new [] keeps looks = looks
 looks_later sizes opening next k old new (f ∷ failed) keeps (between, look, rest) = (between, look_later (slice_index sizes k) k opening next old between f keeps look, looks_later sizes opening next (k + 1) between new failed keeps rest)
+
+-- the calls of looks stand behind those before
+pub looks_behind : (sizes : List ℕ) (opening : Option (List (List Sector))) (k : ℕ) (old new : Option (List Call)) (failed : List Bool) → Looks sizes opening k old failed new
+    → (all : List Call) → new ≡ Some all → (first since : List Call) × (old ≡ Some first) × (all ≡ first ++ since)
+looks_behind sizes opening k old new [] keeps all is = (all, [], keeps all is, sym (append-nil all))
+looks_behind sizes opening k old new (f ∷ failed) (between, look, rest) all is =
+    let (mid, more, told, laid) = looks_behind sizes opening (k + 1) between new failed rest all is in
+    let (first, reads, was, split) = look_more (slice_index sizes k) k opening old between f look mid told in
+    (first, reads ++ more, was, laid ∙ ap (λ (l : List Call). l ++ more) split ∙ append_assoc first reads more)
 
 -- a look behind what is kept
 look_from : (n d : ℕ) (opening : Option (List (List Sector))) (old mid new : Option (List Call)) (failed : Bool) → Keeps old mid → LogsLook n d opening mid new failed → LogsLook n d opening old new failed
@@ -125,7 +145,7 @@ sound_by Blank own n whole = tt
 sound_by (Torn fault) own n whole = tt
 sound_by Unread own n whole = tt
 
-pub all_sound : {serials : List Serial} {sizes : List ℕ} {opening : Option (List (List Sector))} {log : Option (List Call)} {before now : ℕ → ℕ} (place : ℕ → ℕ) (seen : List Seen)
-    → ((k : ℕ) (s : Seen) → slice_get seen k ≡ Some s → IsSeen serials sizes opening log before now (place k) s) → AreSound seen
+pub all_sound : {serials : List Serial} {sizes : List ℕ} {opening : Option (List (List Sector))} {old log : Option (List Call)} {before now : ℕ → ℕ} (place : ℕ → ℕ) (seen : List Seen)
+    → ((k : ℕ) (s : Seen) → slice_get seen k ≡ Some s → IsSeen serials sizes opening old log before now (place k) s) → AreSound seen
 all_sound place [] each = tt
 all_sound place (s ∷ seen) each = (sound_by s.holds s.serial.0 s.sectors (each 0 s refl).whole, all_sound (λ k. place (suc k)) seen (λ k t at. each (suc k) t at))

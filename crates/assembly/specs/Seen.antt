@@ -33,9 +33,10 @@ bytes_of Unread = []
 -- Disk k of a bank was seen so. Whatever the bank tells, a block that counts as whole is whole, with a record of that
 -- disk and no more sectors than it has; no fault is told that a disk can't have; a disk without room for metadata is
 -- blank; and a read failed only where the disk's count of faults rose or stands at its last value. Where the bank tells
--- its opening contents and its log, it is what stood on the disk after some first calls of the log.
+-- its opening contents and its log, it is what stood on the disk after the calls before and some first ones of those
+-- since.
 pub record IsSeen (serials : List Serial) (sizes : List ℕ) (opening : Option (List (List Sector)))
-    (log : Option (List Call)) (before now : ℕ → ℕ) (k : ℕ) (s : Seen) : Type 0 where
+    (old log : Option (List Call)) (before now : ℕ → ℕ) (k : ℕ) (s : Seen) : Type 0 where
   pub disk : s.disk.0 ≡ k
   pub serial : slice_get serials k ≡ Some s.serial
   pub sectors : s.sectors ≡ slice_index sizes k
@@ -45,8 +46,8 @@ pub record IsSeen (serials : List Serial) (sizes : List ℕ) (opening : Option (
   pub small : s.sectors < METADATA_SECTORS → s.holds ≡ Blank
   pub unread : s.holds ≡ Unread → Rose (before k) (now k)
   pub told : (o : List (List Sector)) (all : List Call) → opening ≡ Some o → log ≡ Some all
-      → (front rest : List Call) × (all ≡ front ++ rest)
-      × IsAnswerOn s.serial.0 s.sectors (sector_after o front k) (found_of s.holds) (bytes_of s.holds)
+      → (first since rest : List Call) × (old ≡ Some first) × (all ≡ (first ++ since) ++ rest)
+      × IsAnswerOn s.serial.0 s.sectors (sector_after o (first ++ since) k) (found_of s.holds) (bytes_of s.holds)
 
 -- The calls that a log has at its end, where it is told: one look at each of some disks from disk k on, in order, of
 -- which this says whether a read failed.
@@ -72,13 +73,13 @@ are_unread seen = map (λ (s : Seen). is_unread (found_of s.holds)) seen
 pub record AreSeen (serials : List Serial) (sizes : List ℕ) (opening : Option (List (List Sector)))
     (old new : Option (List Call)) (before now : ℕ → ℕ) (seen : List Seen) : Type 0 where
   pub count : length seen ≡ length serials
-  pub each : (k : ℕ) (s : Seen) → slice_get seen k ≡ Some s → IsSeen serials sizes opening new before now k s
+  pub each : (k : ℕ) (s : Seen) → slice_get seen k ≡ Some s → IsSeen serials sizes opening old new before now k s
   pub looks : Looks sizes opening 0 old (are_unread seen) new
 
 -- a bank at the end of a look is such that disk k, or each disk, was seen so since its beginning
 abbrev pub SeesDisk : {B : Type 0} → bank.Ghosts B → (old new : B) → (k : ℕ) → Seen → Type 0
 SeesDisk g old new k s =
-    IsSeen (g.serials old) (g.sizes old) (g.opening new) (g.log new) (g.faults_of old) (g.faults_of new) k s
+    IsSeen (g.serials old) (g.sizes old) (g.opening new) (g.log old) (g.log new) (g.faults_of old) (g.faults_of new) k s
     × LogsLook (slice_index (g.sizes old) k) k (g.opening new) (g.log old) (g.log new) (is_unread (found_of s.holds))
 
 abbrev pub SeesAll : {B : Type 0} → bank.Ghosts B → (old new : B) → List Seen → Type 0

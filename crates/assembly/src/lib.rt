@@ -1,8 +1,8 @@
 //! The assembly of a container on a bank: its disks are looked at, and the verdict on them is given.
 //!
-//! It owes that all disks are looked at, each once and in the order of their numbers, and nothing else is done; that each
-//! is seen as it stood where the bank tells that; and the verdict of `container` on what was seen. Memory is its only
-//! fault. No command stands on it yet: `assemble` gives the report of `image_verdict`.
+//! It owes that all disks are looked at, each once and in the order of their numbers, and nothing else is done; that
+//! each is seen as it stood where the bank tells that; and the verdict of `container` on what was seen. Memory is its
+//! only fault. No command stands on it yet: `assemble` gives the report of `image_verdict`.
 #![tactic(auto)]
 
 mod assembling;

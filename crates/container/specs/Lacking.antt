@@ -1,5 +1,5 @@
--- Which disks a container's newest block expects and lack, and why. Source: mdadm --incremental starts a container where
--- the disks are there that its metadata names (super-intel.c, load_super_imsm); the causes are this project's own.
+-- Which disks a container's newest block expects and lack, and why. Source: mdadm --incremental starts a container
+-- where the disks are there that its metadata names (super-intel.c, load_super_imsm); the causes are this project's own.
 use Rattle.std.specs.Prelude.{◌≡◌, ◌≢◌, ℕ, ◌<◌, ◌≤◌, ◌⊎◌, true, false, List, [], ◌∷◌, ⊤}
 use Rattle.std.specs.List.{AllByRecursion}
 use Rattle.imsm_base.specs.Fields.{Part}

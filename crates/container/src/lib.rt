@@ -1,8 +1,9 @@
-//! The verdict on a container by what was seen of the disks that are there: whether it is refused, waits for disks, or is
-//! opened, and what is said of its volumes and its disks then.
+//! The verdict on a container by what was seen of the disks that are there: whether it is refused, waits for disks, or
+//! is opened, and what is said of its volumes and its disks then.
 //!
-//! It owes the verdict of the definitions, where each block that is given as whole is; memory is its only fault. Where no
-//! two disks have one serial, that verdict is the only one. It looks at no disk: `assembly` stands on it and reads them.
+//! It owes the verdict of the definitions, where each block that is given as whole is; memory is its only fault. Where
+//! no two disks have one serial, that verdict is the only one. It looks at no disk: `assembly` stands on it and reads
+//! them.
 #![tactic(auto)]
 
 mod entries;

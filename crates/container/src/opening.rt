@@ -61,7 +61,8 @@ pub(crate) fn open(
     requires size { size ≡ full_size (block_of mpb.now) }
     requires fits { size ≤ MAX_BYTES }
     ensures volumes { IfOk result (λ o. o.volumes ≡ volumes) }
-    ensures opening { IfOk result (λ o. (missing : List Missing) → AreVolumeVerdicts (block_of mpb.now) missing volumes.items
+    ensures opening { IfOk result (λ o. (missing : List Missing)
+        → AreVolumeVerdicts (block_of mpb.now) missing volumes.items
         → IsOpening (block_bytes mpb.now) pick.now seen.now missing o) }
 {
     Ok(Opening {

@@ -21,7 +21,7 @@ seen_fresh serials others sizes news opening old new before now seen named sized
       looks = are.looks;
     }))
   where
-    one : (k : ℕ) (s : Seen) → slice_get seen k ≡ Some s → IsSeen serials sizes opening new before now k s → IsSeen serials sizes opening new (λ d. 0) now k s
+    one : (k : ℕ) (s : Seen) → slice_get seen k ≡ Some s → IsSeen serials sizes opening old new before now k s → IsSeen serials sizes opening old new (λ d. 0) now k s
     one k s at is = record {
       disk = is.disk;
       serial = is.serial;

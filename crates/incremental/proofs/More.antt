@@ -1,7 +1,7 @@
 -- Disks in the order of their numbers, and one more.
 use Rattle.std.proofs.Common.{◌≡◌, ◌≢◌, ◌≤◌, ◌<◌, ℕ, zero, suc, not, List, [], ◌∷◌, ◌++◌, length, take, drop, get_or, refl, sym, ◌∙◌, ap, subst, inl, inr, arith, ltb, Option, Some, Result, Ok, Err}
 use Rattle.std.specs.Prelude.{IfOk, OnErr, slice_get}
-use Rattle.std.specs.List.{All, AllPairs, insert, remove}
+use Rattle.std.specs.List.{All, AllPairs, insert}
 use Rattle.std.proofs.lemmas.Bool.{cases_order, le-ltb, lt-ltb, ltb-true}
 use Rattle.std.proofs.lemmas.List.{drop_at, get_or_default, take_at}
 use Rattle.std.proofs.lemmas.List.Elements.{All-append, All-cons, All-filter, All-from_recursion, All-head, All-tail, All-weaker, filter_passes, recursion_from_All}
@@ -70,12 +70,12 @@ kept_by P (Ok t) s seen new added before kept more = subst (λ (l : List Seen). 
 kept_by P (Err e) s seen new added before kept more = subst (λ (l : List Seen). AreKept l) (sym before) kept
 
 -- a disk that was seen so is sound
-pub sound_one : {serials : List Serial} {sizes : List ℕ} {opening : Option (List (List Sector))} {log : Option (List Call)} {before now : ℕ → ℕ} {d : ℕ} {s : Seen}
-    → IsSeen serials sizes opening log before now d s → IsSound s.holds
-sound_one {serials} {sizes} {opening} {log} {before} {now} {d} {s} seen = (all_sound (λ k. d) (s ∷ []) only).0
+pub sound_one : {serials : List Serial} {sizes : List ℕ} {opening : Option (List (List Sector))} {old log : Option (List Call)} {before now : ℕ → ℕ} {d : ℕ} {s : Seen}
+    → IsSeen serials sizes opening old log before now d s → IsSound s.holds
+sound_one {serials} {sizes} {opening} {old} {log} {before} {now} {d} {s} seen = (all_sound (λ k. d) (s ∷ []) only).0
   where
-    only : (k : ℕ) (t : Seen) → slice_get (s ∷ []) k ≡ Some t → IsSeen serials sizes opening log before now d t
-    only zero t at = subst (λ (u : Seen). IsSeen serials sizes opening log before now d u) (cc at) seen
+    only : (k : ℕ) (t : Seen) → slice_get (s ∷ []) k ≡ Some t → IsSeen serials sizes opening old log before now d t
+    only zero t at = subst (λ (u : Seen). IsSeen serials sizes opening old log before now d u) (cc at) seen
     only (suc k) t at = absurd (cc at)
 
 -- numbers that rise and are below 16 are those of 16 disks at most
@@ -128,8 +128,3 @@ placed s seen n rising new count =
     let parts = parted s.disk seen rising (others_of s.disk seen new) in
     ap (λ l. l ++ s ∷ drop n seen) (ap (λ l. take n l) parts ∙ take_at (lower s.disk seen) (higher s.disk seen) n (sym count))
     ∙ ap (λ l. lower s.disk seen ++ s ∷ l) (ap (λ l. drop n l) parts ∙ drop_at (lower s.disk seen) (higher s.disk seen) n (sym count))
-
-pub taken_out : {X : Type 0} (xs : List X) (i : ℕ) (x : X) → i ≤ length xs → remove (insert xs i x) i ≡ xs
-taken_out xs zero x within = refl
-taken_out [] (suc i) x within = absurd (omega arith)
-taken_out (y ∷ xs) (suc i) x within = ap (λ l. y ∷ l) (taken_out xs i x (omega arith))

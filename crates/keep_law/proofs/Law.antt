@@ -17,7 +17,7 @@ use Rattle.sound_images.proofs.Serials.{one_disk, same_disk}
 use Rattle.keep_law.proofs.Slots.{started, all_trusted}
 
 -- what some disks hold more of them hold
-abbrev held_more : (W : Words) (present images : List Image) (a : Laid) → AreAmong present images → IsHeld W present a → IsHeld W images a
+abbrev pub held_more : (W : Words) (present images : List Image) (a : Laid) → AreAmong present images → IsHeld W present a → IsHeld W images a
 held_more W present images a among h = record { disk = h.disk; among = among h.disk h.among; stands = h.stands; whole = h.whole; container = h.container }
 
 held_on_more : (W : Words) (present images : List Image) (serial : List ℕ) (a : Laid) → AreAmong present images → IsHeldOn W present serial a → IsHeldOn W images serial a

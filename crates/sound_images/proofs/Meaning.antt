@@ -41,7 +41,7 @@ at_place P f other past each (x ∷ xs) (suc k) = at_place P f other past each x
 
 -- SERIALS
 
-has_own : (disks : List Part) (k : ℕ) (d : Part) → slice_get disks k ≡ Some d → is_expected d ≡ true → has_serial (map serial_of (filter is_expected disks)) (serial_of d) ≡ true
+pub has_own : (disks : List Part) (k : ℕ) (d : Part) → slice_get disks k ≡ Some d → is_expected d ≡ true → has_serial (map serial_of (filter is_expected disks)) (serial_of d) ≡ true
 has_own [] k d there expected = absurd cc
 has_own (x ∷ disks) k d there expected = at (is_expected x) refl k there (λ j more. has_own disks j d more expected)
   where

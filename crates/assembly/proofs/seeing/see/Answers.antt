@@ -1,8 +1,9 @@
-use Rattle.std.proofs.Common.{◌≡◌, ◌<◌, ℕ, List, [], Some, refl, sym, ◌∙◌, ap, subst}
+use Rattle.std.proofs.Common.{◌≡◌, ◌<◌, ◌++◌, ℕ, List, [], Some, refl, sym, ◌∙◌, ap, subst}
 use Rattle.std.specs.Prelude.{slice_get, slice_index}
 use Rattle.std.proofs.lemmas.List.{append-nil}
 use Rattle.units.specs.declared.bounds.TheConstants.{METADATA_SECTORS}
 use Rattle.units.specs.declared.disk.Serial.{Serial}
+use Rattle.device_log.specs.Log.{Call}
 use Rattle.imsm_base.specs.Parts.{block_in}
 use Rattle.imsm_base.specs.Whole.{IsWholeDisk}
 use Rattle.mpb_store.specs.declared.answer.Found.{Found}
@@ -35,14 +36,18 @@ returns-clause-seen g c =
         possible = subst IsPastFront (sym same) c.found-found.ensures.behind;
         small = λ small. blank_by holds (same ∙ c.found-found.ensures.small (subst (λ (k : ℕ). k < METADATA_SECTORS) size small));
         unread = λ is. c.found-found.ensures.unread (sym same ∙ ap found_of is);
-        told = λ o all is known. (
-          all,
-          [],
-          sym (append-nil all),
-          subst (λ (k : ℕ). IsAnswerOn own.0 k (sector_after o all c.args.d.0) (found_of holds) (bytes_of holds)) (sym size)
-              (answer_by own.0 n (sector_after o all c.args.d.0) answer block holds same bytes
-              (told_at (B.opening now) (B.log now) (λ o l. IsAnswerOn own.0 n (sector_after o l c.args.d.0) answer block) (c.found-found.ensures.told own at) o all is known)),
-        );
+        told = λ o all is known.
+            let (first, reads, anchor, was, laid, each, stood) = c.found-found.ensures.places all known in (
+              first,
+              reads,
+              [],
+              was,
+              laid ∙ sym (append-nil (first ++ reads)),
+              subst (λ (k : ℕ). IsAnswerOn own.0 k (sector_after o (first ++ reads) c.args.d.0) (found_of holds) (bytes_of holds)) (sym size)
+                  (subst (λ (l : List Call). IsAnswerOn own.0 n (sector_after o l c.args.d.0) (found_of holds) (bytes_of holds)) laid
+                  (answer_by own.0 n (sector_after o all c.args.d.0) answer block holds same bytes
+                  (told_at (B.opening now) (B.log now) (λ o l. IsAnswerOn own.0 n (sector_after o l c.args.d.0) answer block) (c.found-found.ensures.told own at) o all is known))),
+            );
       },
       subst (λ (f : Found). LogsLook n c.args.d.0 (B.opening now) (B.log c.args.bank.now) (B.log now) (is_unread f)) (sym same) c.found-found.ensures.places,
     )

@@ -5,7 +5,7 @@ use Rattle.container.specs.declared.seen.Seen.{Seen}
 use Rattle.container.proofs.Lists.{count_more, each_more}
 use Rattle.mpb_store.specs.Banks.{is_unread}
 use Rattle.assembly.specs.Seen.{IsSeen, Looks, are_unread, found_of}
-use Rattle.assembly.proofs.Seen.{front_of, looks_more, seen_later, seen_since}
+use Rattle.assembly.proofs.Seen.{front_of, looks_behind, looks_more, seen_later, seen_since}
 use Rattle.assembly.proofs.seeing.see_all.Goals as goal
 
 pub loop-d-preserved : goal.loop-d-preserved
@@ -21,8 +21,8 @@ loop-d-preserved g c =
     let unread : Seen → Bool = λ s. is_unread (found_of s.holds) in
     let pushed = c.in_ok-push.ensures.items in
     let count : length (are_unread c.loop-d.seen.items) ≡ c.loop-d.d = length-map c.loop-d.seen.items unread ∙ held.count in
-    let is : ℕ → Seen → Type 0 = λ k s. IsSeen (B.serials first) (B.sizes first) (B.opening after) (B.log after) (B.faults_of first) (B.faults_of after) k s in
-    let newest : is c.loop-d.d one = seen_since held.serials held.sizes held.later c.in_ok-see.ensures.seen.0 in
+    let is : ℕ → Seen → Type 0 = λ k s. IsSeen (B.serials first) (B.sizes first) (B.opening after) (B.log first) (B.log after) (B.faults_of first) (B.faults_of after) k s in
+    let newest : is c.loop-d.d one = seen_since held.serials held.sizes (looks_behind (B.sizes first) (B.opening before) 0 (B.log first) (B.log before) (are_unread c.loop-d.seen.items) held.looks) held.later c.in_ok-see.ensures.seen.0 in
     record {
       each = λ k s at. each_more is c.loop-d.seen.items one (λ k s at. seen_later _ c.loop-d.d _ made.opening look made.later (held.each k s at))
           (subst (λ (k : ℕ). is k one) (sym held.count) newest) k s (subst (λ (l : List Seen). slice_get l k ≡ Some s) pushed at);

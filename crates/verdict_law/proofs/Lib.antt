@@ -1,0 +1,6 @@
+mod Stands
+mod Held
+mod Entries
+mod Volumes
+mod Opened
+mod Ready
