@@ -108,6 +108,14 @@ fn waited(rt: &impl Abort, verdict: Result<Verdict, AssembleFault>) -> Missing {
     }
 }
 
+/// How many disks are waited for.
+fn waiting_count(rt: &impl Abort, verdict: Result<Verdict, AssembleFault>) -> usize {
+    match &verdict {
+        Ok(Verdict::Waiting { list, .. }) => list.len(),
+        _ => panic!(rt; "not waiting"),
+    }
+}
+
 #[test]
 fn a_mirror_is_opened_by_its_newest_block(rt: HostRuntime) -> Result<(), Fail> {
     let alloc = rt.alloc();
@@ -154,12 +162,14 @@ fn a_disk_that_lacks_is_done_without_where_that_is_asked(rt: HostRuntime) -> Res
     let volumes = [VolumeVerdict::Degraded(Some(0))];
     assert_eq!(rt; opening.volumes.as_slice(), volumes.as_slice());
     assert_eq!(rt; opening.disks.as_slice(), [DiskRole::Member(0)].as_slice());
-    // where no disk of the mirror is there with its block, none starts
-    let small = [whole(&rt, alloc, 0, b'A', 2000, &block)?];
-    match judge(alloc, &small, true) {
-        Ok(Verdict::Waiting { list, .. }) => assert_eq!(rt; list.len(), 2),
-        _ => panic!(rt; "not waiting"),
-    }
+    Ok(())
+}
+
+#[test]
+fn where_no_volume_starts_all_disks_are_waited_for(rt: HostRuntime) -> Result<(), Fail> {
+    let alloc = rt.alloc();
+    let small = [whole(&rt, alloc, 0, b'A', 2000, &mirror(7, 1))?];
+    assert_eq!(rt; waiting_count(&rt, judge(alloc, &small, true)), 2);
     Ok(())
 }
 
