@@ -11,7 +11,7 @@ use Rattle.device_log.specs.Log.{Call}
 use Rattle.member_bank.specs.Faults.{Rose}
 use Rattle.member_bank.specs.Told.{LogsAll}
 use Rattle.new_container.specs.declared.container.NewContainer.{NewContainer}
-use Rattle.new_container.specs.Created.{CanCreate, created_block}
+use Rattle.new_container.specs.Created.{CanCreate, IsDisk, created_block}
 use Rattle.image_outside.specs.Told.{BankTold}
 use Rattle.image_outside.specs.Shelves.{IsUncalled}
 use Rattle.image_outside.specs.Lines.{failed_member_line}
@@ -58,14 +58,16 @@ laid_first sizes rows bytes (Some o) before (Some now) calls fresh logs laid =
     subst (λ (l : List Call). IsLaidDown sizes rows bytes o l now) empty was
 
 pub created_by : (made : NewContainer) (old new : BankTold) (lines : List ℕ) → new.serials ≡ old.serials → new.sizes ≡ old.sizes → IsUncalled old → CanCreate made (disks_in old)
-    → LogsAll old.log new.log (calls_for made old) → LaysDown old.sizes (rows_on made old) (bytes_on made old) new.opening old.log new.log
+    → length old.serials ≡ length old.sizes → All IsDisk (disks_in old) → LogsAll old.log new.log (calls_for made old) → LaysDown old.sizes (rows_on made old) (bytes_on made old) new.opening old.log new.log
     → lines ≡ created_line (family_of (created_block made (disks_in old))) → CreatesBy made new lines 0
-created_by made old new lines named sized fresh can logs laid are =
+created_by made old new lines named sized fresh can as_many typed logs laid are =
     subst (λ (b : BankTold). CreatesBy made b lines 0) (still_named old new named sized)
     (inl (
       refl,
       record {
         fits = can;
+        sized = as_many;
+        typed = typed;
         calls = alone old.log new.log (calls_for made old) fresh logs;
         laid = laid_first old.sizes (rows_on made old) (bytes_on made old) new.opening old.log new.log (calls_for made old) fresh logs laid;
         lines_are = are;

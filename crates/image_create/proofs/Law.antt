@@ -108,7 +108,7 @@ sector_laid sizes rows bytes opening before d p roomy =
     ap (λ (k : Cell). k.stood) (cell_after-append d p first before (create_calls sizes rows bytes)) ∙ laid_at sizes rows bytes d p (cell_after d p first before) roomy
 
 -- the places of a block have its sectors
-laid_anchor : (n rows : ℕ) (bytes : List ℕ) (before : Sector) → rows + 18 ≤ n → laid_sector n rows bytes before (anchor_place n) ≡ block_sector bytes 0
+pub laid_anchor : (n rows : ℕ) (bytes : List ℕ) (before : Sector) → rows + 18 ≤ n → laid_sector n rows bytes before (anchor_place n) ≡ block_sector bytes 0
 laid_anchor n rows bytes before room =
     let over : nat_lt (anchor_place n) rows ≡ false = grind (arith, nat_tests) in
     let here : (anchor_place n == anchor_place n) ≡ true = grind (arith, nat_tests) in
@@ -117,7 +117,7 @@ laid_anchor n rows bytes before room =
     behind : Bool → Sector
     behind b = cond b (block_sector bytes 0) (cond (nat_le (first_place n bytes) (anchor_place n) && nat_lt (anchor_place n) (anchor_place n)) (block_sector bytes (anchor_place n - first_place n bytes + 1)) before)
 
-laid_extended : (n rows : ℕ) (bytes : List ℕ) (before : Sector) (k : ℕ) → rows + 18 ≤ n → length bytes ≤ 8192 → k < extended_count (length bytes)
+pub laid_extended : (n rows : ℕ) (bytes : List ℕ) (before : Sector) (k : ℕ) → rows + 18 ≤ n → length bytes ≤ 8192 → k < extended_count (length bytes)
     → laid_sector n rows bytes before (first_place n bytes + k) ≡ block_sector bytes (k + 1)
 laid_extended n rows bytes before k room most few =
     let over : nat_lt p rows ≡ false = grind (arith, nat_tests) in

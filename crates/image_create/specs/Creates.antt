@@ -1,5 +1,5 @@
 -- What the making of a container leaves of a bank. Source: this project's own.
-use Rattle.std.specs.Prelude.{◌≡◌, ℕ, ◌+◌, ◌⊎◌, List, [], ◌∷◌, codes, length, slice_get, slice_index, Some, IfSome}
+use Rattle.std.specs.Prelude.{◌≡◌, ℕ, ◌+◌, ◌⊎◌, List, [], ◌∷◌, All, codes, length, slice_get, slice_index, Some, IfSome}
 use Rattle.std.specs.Fmt.{decimal}
 use Rattle.units.specs.declared.bounds.TheConstants.{METADATA_SECTORS}
 use Rattle.units.specs.declared.disk.Serial.{Serial}
@@ -8,7 +8,7 @@ use Rattle.device_log.specs.Log.{Call}
 use Rattle.member_bank.specs.Faults.{Rose}
 use Rattle.new_container.specs.declared.container.NewContainer.{NewContainer}
 use Rattle.new_container.specs.declared.disk.NewDisk.{NewDisk}
-use Rattle.new_container.specs.Created.{CanCreate, created_block, created_bytes}
+use Rattle.new_container.specs.Created.{CanCreate, IsDisk, created_block, created_bytes}
 use Rattle.new_container.specs.Fits.{total_rows}
 use Rattle.image_outside.specs.declared.status.TheConstants.Status.{DONE, MEMBER_FAULT, REFUSED}
 use Rattle.image_outside.specs.Told.{BankTold}
@@ -50,10 +50,13 @@ bytes_on made bank = created_bytes made (disks_in bank)
 abbrev pub calls_for : NewContainer → BankTold → List Call
 calls_for made bank = create_calls bank.sizes (rows_on made bank) (bytes_on made bank)
 
--- The container stands on all disks, and the line names its family. The calls that make it are all that were made, in
+-- The container stands on all disks, and the line names its family. The disks are those that a block is made for: each
+-- has a serial and a size, and both are in their ranges. The calls that make the container are all that were made, in
 -- their order, and where the bank tells what it held, all places of its disks have what they are to have.
 pub record Creates (made : NewContainer) (bank : BankTold) (lines : List ℕ) : Type 0 where
   pub fits : CanCreate made (disks_in bank)
+  pub sized : length bank.serials ≡ length bank.sizes
+  pub typed : All IsDisk (disks_in bank)
   pub calls : IfSome bank.log (λ l. l ≡ calls_for made bank)
   pub laid : LaysDown bank.sizes (rows_on made bank) (bytes_on made bank) bank.opening (Some []) bank.log
   pub lines_are : lines ≡ created_line (family_of (created_block made (disks_in bank)))

@@ -5,7 +5,7 @@ use Rattle.imsm_base.specs.Layout.{Block, family_of}
 use Rattle.imsm_base.proofs.Joined.{block_in-spelled}
 use Rattle.imsm_buffer.specs.Buffer.{parts_of}
 use Rattle.member_bank.specs.Told.{LogsAll}
-use Rattle.new_container.specs.Created.{CanCreate, created_block, created_bytes}
+use Rattle.new_container.specs.Created.{CanCreate, IsDisk, created_block, created_bytes}
 use Rattle.new_container.specs.Fits.{container_fits, total_rows}
 use Rattle.image_outside.specs.Told.{bank_told}
 use Rattle.image_outside.specs.Views.{sink_told}
@@ -89,7 +89,8 @@ returns-in-Ok-new_block-clause-ends g c =
     (laid_or c.lay_down-laid.result c.lay_down-laid.ensures.ok c.lay_down-laid.ensures.laid c.end_laid.ensures.created c.lay_down-laid.ensures.err c.lay_down-laid.ensures.cause c.end_laid.ensures.failed
     (λ logs laid prints.
     ends (created_line (family_of (parts_of c.in-Ok-new_block.block))) 0 (CreatesBy made after) c.end_laid.result.0
-    (created_by made before after _ named sized c.requires.fresh can
+    (created_by made before after _ named sized c.requires.fresh can c.disks.ensures.named
+    (subst (All IsDisk) given c.in-Ok-new_block.ensures.disks)
     (of_same (λ r b. LogsAll before.log after.log (create_calls before.sizes r b)) rows bytes logs)
     (of_same (λ r b. LaysDown before.sizes r b after.opening before.log after.log) rows bytes laid)
     (ap (λ (b : Block). created_line (family_of b)) block))
