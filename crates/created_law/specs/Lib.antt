@@ -1,0 +1,2 @@
+pub mod OnBank
+pub mod Example
