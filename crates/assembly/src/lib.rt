@@ -2,13 +2,11 @@
 //!
 //! It owes that all disks are looked at, each once and in the order of their numbers, and nothing else is done; that
 //! each is seen as it stood where the bank tells that; and the verdict of `container` on what was seen. Memory is its
-//! only fault. No command stands on it yet: `assemble` gives the report of `image_verdict`.
+//! only fault.
 #![tactic(auto)]
 
 mod assembling;
 mod seeing;
-#[cfg(test)]
-mod tests;
 
 pub use assembling::assemble;
 pub use seeing::see;

@@ -1,5 +1,5 @@
 //! The verdict on a bank is printed.
-ghost use Rattle.std.specs.Prelude.{◌≡◌, ◌<◌, ◌≤◌, ℕ, length, take};
+ghost use Rattle.std.specs.Prelude.{◌≡◌, ◌<◌, ◌≤◌, ℕ, length};
 ghost use Rattle.member_bank.specs.Told.{Keeps};
 ghost use Rattle.image_outside.specs.Endings.{EndsIfMemory, Prints};
 ghost use Rattle.image_outside.specs.Shelves.{IsUncalled};
@@ -19,7 +19,7 @@ use units::{DiskNo, MAX_DISKS, Serial};
 use verdict_text::{status_of, verdict_text};
 
 /// The serials of a bank's disks, in the order of their numbers.
-fn serials_of<B: Bank>(bank: &B) -> ArrayVec<Serial, MAX_DISKS>
+pub fn serials_of<B: Bank>(bank: &B) -> ArrayVec<Serial, MAX_DISKS>
     ensures { result.items ≡ B.serials bank.now }
 {
     let mut serials = ArrayVec::new();

@@ -1,8 +1,8 @@
-//! What is said of images: what is read of them, the report on them, and its text.
+//! What a replay says of images before it runs: what is read of them, the report on them, and its text.
 //!
 //! It owes that each anchor is read once, in order, and nothing else; that an image counts as unread only where it is
 //! too small or its count of faults rose; and the report of the definitions, both ways: not of the first form, disks
-//! absent, or started. `assemble` is this report, and `image_start` and `image_replay` go on from it.
+//! absent, or started. `image_start` and `image_replay` go on from it.
 #![tactic(auto)]
 
 mod images;

@@ -5,7 +5,7 @@
 //! order of the disks' numbers, whatever the order of arrival, so that the verdict doesn't depend on it; that the
 //! verdict is the one of `container` on what was seen of all that have arrived; and that a refusal leaves them as they
 //! were. A disk that has arrived is refused, and each one once the container was opened; else memory is the only
-//! fault. No command stands on it yet.
+//! fault.
 #![tactic(auto)]
 
 mod adding;

@@ -1,6 +1,6 @@
 //! The lines of a verdict on a container, and the status with which it is printed.
 //!
-//! It owes each line as a function of the verdict and of the disks' serials. No command prints by it yet.
+//! It owes each line as a function of the verdict and of the disks' serials.
 #![tactic(auto)]
 
 mod disks;
