@@ -1,0 +1,4 @@
+pub mod Told
+pub mod Wrong
+pub mod Arrivals
+pub mod Mirror
