@@ -2,5 +2,5 @@ mod Stands
 mod Held
 mod Entries
 mod Volumes
-mod Opened
-mod Ready
+pub mod Opened
+pub mod Ready
