@@ -6,7 +6,8 @@ use Rattle.image_outside.specs.Told.{BankTold, ShelfTold}
 use Rattle.image_outside.specs.Shelves.{IsUncalled}
 use Rattle.image_outside.specs.Endings.{Prints}
 use Rattle.image_words.specs.Words.{ImageWord}
-use Rattle.image_verdict.specs.Endings.{Reports}
+use Rattle.image_assemble.specs.Endings.{Assembles}
+use Rattle.image_incremental.specs.Endings.{Arrives}
 use Rattle.image_examine.specs.Endings.{Examines}
 use Rattle.image_create.specs.Creates.{CreatesBy}
 use Rattle.image_replay.specs.Replays.{ReplaysBy}
@@ -14,7 +15,7 @@ use Rattle.image_run.specs.declared.script.ScriptStop.{ScriptStop}
 use Rattle.image_run.specs.Lines.{images_limit_line, words_line}
 use Rattle.image_run.specs.Openings.{OpensAll, OpensNot}
 use Rattle.image_run.specs.Outside.{Outside}
-use Rattle.image_run.specs.Requests.{Request, NotWords, TooManyImages, Assemble, Examine, Create, Replay}
+use Rattle.image_run.specs.Requests.{Request, NotWords, TooManyImages, Assemble, Incremental, Examine, Create, Replay}
 use Rattle.image_run.specs.Scripts.{IsStopped, StopsBy, TakesScript, stop_line, stop_status}
 
 -- nothing was opened, and nothing read from the source
@@ -57,8 +58,10 @@ ReplayEnds limit images before after lines status =
 abbrev pub Does : Request → (before after : Outside) → (lines : List ℕ) → (status : ℕ) → Type 0
 Does NotWords before after lines status = IsUntouched before after × Prints words_line WORDS.0 lines status
 Does TooManyImages before after lines status = IsUntouched before after × Prints images_limit_line LIMIT.0 lines status
-Does (Assemble images) before after lines status =
-    WithoutSource before after (OnImages images before.shelf after.shelf Reports lines status)
+Does (Assemble run images) before after lines status =
+    WithoutSource before after (OnImages images before.shelf after.shelf (Assembles run) lines status)
+Does (Incremental run images) before after lines status =
+    WithoutSource before after (OnImages images before.shelf after.shelf (Arrives run) lines status)
 Does (Examine images) before after lines status =
     WithoutSource before after (OnImages images before.shelf after.shelf Examines lines status)
 Does (Create made images) before after lines status =

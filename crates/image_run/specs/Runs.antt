@@ -5,12 +5,13 @@ use Rattle.image_outside.specs.declared.status.TheConstants.Status.{MEMORY}
 use Rattle.image_outside.specs.Endings.{Ends, EndsWithoutMemory}
 use Rattle.image_outside.specs.Told.{BankTold, ShelfTold}
 use Rattle.image_words.specs.Words.{ImageWord}
+use Rattle.image_assemble.specs.Endings.{HasLookedFirst}
 use Rattle.image_verdict.specs.Images.{HasReadFirst}
 use Rattle.image_examine.specs.Endings.{HasLookedOrNot}
 use Rattle.image_run.specs.Does.{Does, IsUntouched, WithoutSource}
 use Rattle.image_run.specs.Openings.{OpensAll, OpensFront}
 use Rattle.image_run.specs.Outside.{Outside}
-use Rattle.image_run.specs.Requests.{Request, NotWords, TooManyImages, Assemble, Examine, Create, Replay, IsAsked}
+use Rattle.image_run.specs.Requests.{Request, NotWords, TooManyImages, Assemble, Incremental, Examine, Create, Replay, IsAsked}
 use Rattle.image_run.specs.Scripts.{TakesSome}
 
 -- some first images were opened and no call was made, or all were, and of their bank this holds
@@ -28,8 +29,10 @@ LeavesReplay images before after =
 abbrev pub Leaves : Request → (before after : Outside) → Type 0
 Leaves NotWords before after = IsUntouched before after
 Leaves TooManyImages before after = IsUntouched before after
-Leaves (Assemble images) before after =
-    WithoutSource before after (OnFront images before.shelf after.shelf HasReadFirst)
+Leaves (Assemble run images) before after =
+    WithoutSource before after (OnFront images before.shelf after.shelf HasLookedFirst)
+Leaves (Incremental run images) before after =
+    WithoutSource before after (OnFront images before.shelf after.shelf HasLookedFirst)
 Leaves (Examine images) before after =
     WithoutSource before after (OnFront images before.shelf after.shelf HasLookedOrNot)
 Leaves (Create made images) before after = WithoutSource before after (OpensFront images before.shelf after.shelf)

@@ -1,5 +1,5 @@
 -- The words of a command. Source: this project's own.
-use Rattle.std.specs.Prelude.{◌≡◌, ℕ, ◌-◌, ◌^◌, ◌<◌, ◌≤◌, ◌==◌, ◌&&◌, ◌⊎◌, nat_le, not, Bool, true, List, [], ◌∷◌, ◌++◌, length, map, codes, replicate, Option, Some, None, if◌then◌else◌, String, string_bytes}
+use Rattle.std.specs.Prelude.{◌≡◌, ℕ, ◌-◌, ◌^◌, ◌<◌, ◌≤◌, ◌==◌, ◌&&◌, ◌⊎◌, nat_le, not, Bool, true, false, List, [], ◌∷◌, ◌++◌, length, map, codes, replicate, Option, Some, None, if◌then◌else◌, String, string_bytes}
 use Rattle.std.specs.Str.Parse.{digits_value}
 use Rattle.std.specs.Str.{bytes_eq}
 use Rattle.std.specs.Fmt.{decimal}
@@ -55,6 +55,9 @@ pub record AreImages (images : List ImageWord) : Type 0 where
 abbrev pub assemble_word : List ℕ
 assemble_word = codes "assemble"
 
+abbrev pub incremental_word : List ℕ
+incremental_word = codes "incremental"
+
 abbrev pub replay_word : List ℕ
 replay_word = codes "replay"
 
@@ -63,6 +66,14 @@ examine_word = codes "examine"
 
 abbrev pub create_word : List ℕ
 create_word = codes "create"
+
+abbrev pub run_word : List ℕ
+run_word = codes "--run"
+
+-- the option of a start without disks that lack
+abbrev pub run_option : Bool → List (List ℕ)
+run_option false = []
+run_option true = run_word ∷ []
 
 abbrev pub journal_word : List ℕ
 journal_word = codes "--journal"
@@ -108,10 +119,17 @@ abbrev pub second_words : Option NewVolume → List (List ℕ)
 second_words None = []
 second_words (Some v) = volume_words v
 
--- the command `assemble NAME=FILE..`
-pub record IsAssemble (words : List (List ℕ)) (images : List ImageWord) : Type 0 where
-  pub words_are : words ≡ assemble_word ∷ map spelled images
+-- a command `FIRST [--run] NAME=FILE..`, which gives a verdict
+pub record IsVerdictOf (first : List ℕ) (words : List (List ℕ)) (run : Bool) (images : List ImageWord) : Type 0 where
+  pub words_are : words ≡ first ∷ (run_option run ++ map spelled images)
   pub named : AreImages images
+
+-- the commands `assemble [--run] NAME=FILE..` and `incremental [--run] NAME=FILE..`
+abbrev pub IsAssemble : List (List ℕ) → Bool → List ImageWord → Type 0
+IsAssemble words run images = IsVerdictOf assemble_word words run images
+
+abbrev pub IsIncremental : List (List ℕ) → Bool → List ImageWord → Type 0
+IsIncremental words run images = IsVerdictOf incremental_word words run images
 
 -- the command `replay [--journal N] NAME=FILE..`
 pub record IsReplay (words : List (List ℕ)) (limit : ℕ) (images : List ImageWord) : Type 0 where
@@ -138,7 +156,8 @@ pub record IsCreate (words : List (List ℕ)) (made : NewContainer) (images : Li
 -- the command of words names these images
 abbrev pub Names : List (List ℕ) → List ImageWord → Type 0
 Names words images =
-    IsAssemble words images
+    ((run : Bool) × IsAssemble words run images)
+    ⊎ ((run : Bool) × IsIncremental words run images)
     ⊎ ((limit : ℕ) × IsReplay words limit images)
     ⊎ IsExamine words images
     ⊎ ((made : NewContainer) × IsCreate words made images)

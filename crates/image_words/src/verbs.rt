@@ -1,8 +1,8 @@
 //! What a command does, by its first words.
-ghost use Rattle.std.specs.Prelude.{◌≡◌, ℕ, List, ◌++◌, ◌∷◌, map, IfSome, IfNone};
+ghost use Rattle.std.specs.Prelude.{◌≡◌, ℕ, Bool, List, ◌++◌, ◌∷◌, map, IfSome, IfNone};
 ghost use Rattle.std.specs.List.{AllByRecursion};
 ghost use Rattle.std.specs.Option.{IsSomeAnd};
-ghost use Rattle.image_words.specs.Words.{HasJournal, ImageWord, IsImageWord, IsLimit, spelled, texts};
+ghost use Rattle.image_words.specs.Words.{HasJournal, ImageWord, IsImageWord, IsLimit, run_option, spelled, texts};
 ghost use Rattle.image_words.specs.Args.{Asks, Begins, fits};
 
 use crate::numbers::number_of;
@@ -16,11 +16,13 @@ const MIN_LIMIT: u32 = 4;
 /// The most, and the limit of a journal where none is given. The number is this project's own.
 const MAX_LIMIT: u32 = 1_048_576;
 
-/// What a command does with its images: it assembles them, runs a script over them with a journal of at most so many
-/// entries, examines the one that it names, or makes a container over them.
+/// What a command does with its images: it gives the verdict on all of them, or on each and those before it, with `run`
+/// that of a start without disks that lack; runs a script over them with a journal of at most so many entries; examines
+/// the one that it names; or makes a container over them.
 #[derive(Clone, Copy, Debug, PartialEq, Eq)]
 pub enum Verb {
-    Assemble,
+    Assemble { run: bool },
+    Incremental { run: bool },
     Replay { limit: u32 },
     Examine,
     Create(NewContainer),
@@ -32,10 +34,22 @@ impl Verb {
         ensures { result ≡ fits self images }
     {
         match self {
-            Verb::Assemble | Verb::Replay { .. } => true,
+            Verb::Assemble { .. } | Verb::Incremental { .. } | Verb::Replay { .. } => true,
             Verb::Examine => images == 1,
             Verb::Create(made) => made.fits(images),
         }
+    }
+}
+
+/// Whether `--run` is given, and the words behind it.
+fn split_run(words: &[String]) -> (bool, &[String])
+    ensures given { texts words.now ≡ run_option result.0 ++ texts result.1.now }
+    ensures only { (run : Bool) (images : List ImageWord) → texts words.now ≡ run_option run ++ map spelled images
+        → (result.0 ≡ run) × (texts result.1.now ≡ map spelled images) }
+{
+    match behind("--run", words) {
+        Some(named) => (true, named),
+        None => (false, words),
     }
 }
 
@@ -85,8 +99,13 @@ pub fn split_verb(words: &[String]) -> Option<(Verb, &[String])>
     ensures only { (verb : Verb) (images : List ImageWord) → Asks (texts words.now) verb images
         → IsSomeAnd result (λ found. (found.0 ≡ verb) × (texts found.1.now ≡ map spelled images)) }
 {
-    if let Some(named) = behind("assemble", words) {
-        return Some((Verb::Assemble, named));
+    if let Some(given) = behind("assemble", words) {
+        let (run, named) = split_run(given);
+        return Some((Verb::Assemble { run }, named));
+    }
+    if let Some(given) = behind("incremental", words) {
+        let (run, named) = split_run(given);
+        return Some((Verb::Incremental { run }, named));
     }
     if let Some(named) = behind("examine", words) {
         return Some((Verb::Examine, named));

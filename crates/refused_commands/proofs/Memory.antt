@@ -8,15 +8,16 @@ use Rattle.image_outside.specs.Shelves.{HasOnlyReads, IsUncalled, IsUnused}
 use Rattle.image_words.specs.Words.{ImageWord, serials_named}
 use Rattle.image_verdict.specs.Images.{HasReadFirst}
 use Rattle.image_verdict.proofs.Reading.{first_only_read}
+use Rattle.image_assemble.specs.Endings.{HasLookedFirst}
 use Rattle.image_examine.specs.Endings.{HasLookedOrNot}
 use Rattle.image_run.specs.Does.{Does, IsUntouched}
 use Rattle.image_run.specs.Openings.{OpensAll, OpensFront, paths_named}
 use Rattle.image_run.specs.Outside.{Outside}
-use Rattle.image_run.specs.Requests.{Request, NotWords, TooManyImages, Assemble, Examine, Create, Replay}
+use Rattle.image_run.specs.Requests.{Request, NotWords, TooManyImages, Assemble, Incremental, Examine, Create, Replay}
 use Rattle.image_run.specs.Runs.{Leaves, OnFront}
 use Rattle.image_run.specs.Scripts.{IsStopped}
 use Rattle.refused_commands.specs.Wrong.{images_of}
-use Rattle.refused_commands.proofs.Changes.{looked_only_reads, uncalled_reads, unused_reads}
+use Rattle.refused_commands.proofs.Changes.{first_looks_only_read, looked_only_reads, uncalled_reads, unused_reads}
 use Rattle.refused_commands.proofs.Statuses.{is_plain, does_end}
 
 neither_nine : (is_plain 9 ≡ true) ⊎ IsStopped 9 → ⊥
@@ -53,7 +54,8 @@ on_front images before after P reads (inr all) = all_read images before after P 
 pub left_read : (request : Request) (before after : Outside) → IsSomeAnd before.shelf.bank IsUnused → Leaves request before after → IsSomeAnd after.shelf.bank HasOnlyReads
 left_read NotWords before after unused leaves = still_read before after leaves unused
 left_read TooManyImages before after unused leaves = still_read before after leaves unused
-left_read (Assemble images) before after unused leaves = on_front images before.shelf after.shelf HasReadFirst first_only_read leaves.1
+left_read (Assemble run images) before after unused leaves = on_front images before.shelf after.shelf HasLookedFirst first_looks_only_read leaves.1
+left_read (Incremental run images) before after unused leaves = on_front images before.shelf after.shelf HasLookedFirst first_looks_only_read leaves.1
 left_read (Examine images) before after unused leaves = on_front images before.shelf after.shelf HasLookedOrNot looked_only_reads leaves.1
 left_read (Create made images) before after unused leaves = front_read images before.shelf after.shelf leaves.1
 left_read (Replay limit images) before after unused (inl front) = front_read images before.shelf after.shelf front.1
@@ -84,7 +86,8 @@ none_some before after same = record { front = []; rest = []; are = refl; paths 
 pub leaves_some : (request : Request) (before after : Outside) → Leaves request before after → OpensSome (images_of request) before.shelf after.shelf
 leaves_some NotWords before after leaves = none_some before after leaves
 leaves_some TooManyImages before after leaves = none_some before after leaves
-leaves_some (Assemble images) before after leaves = on_front_some images before.shelf after.shelf HasReadFirst leaves.1
+leaves_some (Assemble run images) before after leaves = on_front_some images before.shelf after.shelf HasLookedFirst leaves.1
+leaves_some (Incremental run images) before after leaves = on_front_some images before.shelf after.shelf HasLookedFirst leaves.1
 leaves_some (Examine images) before after leaves = on_front_some images before.shelf after.shelf HasLookedOrNot leaves.1
 leaves_some (Create made images) before after leaves = front_some images before.shelf after.shelf leaves.1
 leaves_some (Replay limit images) before after (inl front) = front_some images before.shelf after.shelf front.1

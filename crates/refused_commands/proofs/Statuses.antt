@@ -1,5 +1,6 @@
 -- The statuses with which a command ends, but for a write fault and for want of memory.
-use Rattle.std.proofs.Common.{◌≡◌, ℕ, ◌==◌, ◌⊎◌, Bool, true, List, [], ◌∷◌, Option, Some, None, refl, sym, subst, inl, inr}
+use Rattle.std.proofs.Common.{◌≡◌, ℕ, ◌==◌, ◌⊎◌, Bool, true, false, List, [], ◌∷◌, Option, Some, None, refl, sym, subst, inl, inr}
+use Rattle.std.specs.Prelude.{if◌then◌else◌}
 use Rattle.std.specs.List.{list_any}
 use Rattle.std.specs.Option.{IsSomeAnd}
 use Rattle.array_model.specs.Kept.{ScriptState}
@@ -14,6 +15,12 @@ use Rattle.image_verdict.specs.declared.report.Report.{Report}
 use Rattle.image_verdict.specs.declared.report.Report.TheVariants.{Unbuilt, Waiting, Started}
 use Rattle.image_verdict.specs.Endings.{Reports}
 use Rattle.image_verdict.specs.Text.{report_status}
+use Rattle.container.specs.declared.verdict.Verdict.{Verdict}
+use Rattle.container.specs.declared.verdict.Verdict.TheVariants as verdicts
+use Rattle.container.specs.Volumes.{is_any_started}
+use Rattle.verdict_text.specs.Status.{verdict_status}
+use Rattle.image_assemble.specs.Endings.{Assembles}
+use Rattle.image_incremental.specs.Endings.{Arrives}
 use Rattle.image_examine.specs.Endings.{Examines}
 use Rattle.image_examine.specs.Text.{found_status}
 use Rattle.image_create.specs.Creates.{CreatesBy}
@@ -22,7 +29,7 @@ use Rattle.image_replay.specs.Replays.{ReplaysBy}
 use Rattle.image_run.specs.Does.{Does, OnImages}
 use Rattle.image_run.specs.Openings.{OpensAll, OpensNot}
 use Rattle.image_run.specs.Outside.{Outside}
-use Rattle.image_run.specs.Requests.{Request, NotWords, TooManyImages, Assemble, Examine, Create, Replay}
+use Rattle.image_run.specs.Requests.{Request, NotWords, TooManyImages, Assemble, Incremental, Examine, Create, Replay}
 use Rattle.image_run.specs.Scripts.{IsStopped}
 
 -- one of the statuses of a command that has what it reads
@@ -42,6 +49,17 @@ report_plain (Unbuilt s) = refl
 report_plain (Waiting family generation missing) = refl
 report_plain (Started family generation present) = refl
 
+either_plain : (b : Bool) → is_plain (if b then 0 else 3) ≡ true
+either_plain true = refl
+either_plain false = refl
+
+verdict_plain : (verdict : Verdict) → is_plain (verdict_status verdict) ≡ true
+verdict_plain (verdicts.Refused fault) = refl
+verdict_plain (verdicts.Large family generation size) = refl
+verdict_plain (verdicts.GenerationEnd family generation) = refl
+verdict_plain (verdicts.Waiting family generation list) = refl
+verdict_plain (verdicts.Ready opening) = either_plain (is_any_started opening.volumes.items)
+
 found_plain : (found : Found) → is_plain (found_status found) ≡ true
 found_plain Whole = refl
 found_plain Blank = refl
@@ -55,6 +73,12 @@ end_plain (Member d) = refl
 
 reports_plain : (bank : BankTold) (lines : List ℕ) (status : ℕ) → Reports bank lines status → is_plain status ≡ true
 reports_plain bank lines status says = plain_as status (report_status says.report) says.status_is (report_plain says.report)
+
+assembles_plain : (run : Bool) (bank : BankTold) (lines : List ℕ) (status : ℕ) → Assembles run bank lines status → is_plain status ≡ true
+assembles_plain run bank lines status says = plain_as status (verdict_status says.verdict) says.status_is (verdict_plain says.verdict)
+
+arrives_plain : (run : Bool) (bank : BankTold) (lines : List ℕ) (status : ℕ) → Arrives run bank lines status → is_plain status ≡ true
+arrives_plain run bank lines status says = plain_as status (verdict_status says.last) says.status_is (verdict_plain says.last)
 
 examines_plain : (bank : BankTold) (lines : List ℕ) (status : ℕ) → Examines bank lines status → is_plain status ≡ true
 examines_plain bank lines status says = plain_as status (found_status says.found) says.status_is (found_plain says.found)
@@ -85,8 +109,10 @@ images_plain images before after Done lines status plain (inr opens) = opens_pla
 pub does_end : (request : Request) (before after : Outside) (lines : List ℕ) (status : ℕ) → Does request before after lines status → (is_plain status ≡ true) ⊎ IsStopped status
 does_end NotWords before after lines status done = inl (plain_as status 1 done.1.status_is refl)
 does_end TooManyImages before after lines status done = inl (plain_as status 10 done.1.status_is refl)
-does_end (Assemble images) before after lines status done =
-    inl (images_plain images before.shelf after.shelf Reports lines status (λ bank. reports_plain bank lines status) done.1)
+does_end (Assemble run images) before after lines status done =
+    inl (images_plain images before.shelf after.shelf (Assembles run) lines status (λ bank. assembles_plain run bank lines status) done.1)
+does_end (Incremental run images) before after lines status done =
+    inl (images_plain images before.shelf after.shelf (Arrives run) lines status (λ bank. arrives_plain run bank lines status) done.1)
 does_end (Examine images) before after lines status done =
     inl (images_plain images before.shelf after.shelf Examines lines status (λ bank. examines_plain bank lines status) done.1)
 does_end (Create made images) before after lines status done =

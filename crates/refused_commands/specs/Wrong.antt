@@ -8,7 +8,7 @@ use Rattle.units.specs.Places.{anchor_place}
 use Rattle.device_log.specs.Log.{Call, What, Read, Write, Sync, IsReadCall}
 use Rattle.image_outside.specs.Told.{BankTold, ShelfTold}
 use Rattle.image_words.specs.Words.{ImageWord, serials_named}
-use Rattle.image_run.specs.Requests.{Request, NotWords, TooManyImages, Assemble, Examine, Create, Replay}
+use Rattle.image_run.specs.Requests.{Request, NotWords, TooManyImages, Assemble, Incremental, Examine, Create, Replay}
 
 -- a count of faults stands where it stood, below its last value
 pub record StandsStill (before after : ℕ) : Type 0 where
@@ -27,7 +27,8 @@ pub record TellsChange (bank : BankTold) : Type 0 where
 abbrev pub images_of : Request → List ImageWord
 images_of NotWords = []
 images_of TooManyImages = []
-images_of (Assemble images) = images
+images_of (Assemble run images) = images
+images_of (Incremental run images) = images
 images_of (Examine images) = images
 images_of (Create made images) = images
 images_of (Replay limit images) = images

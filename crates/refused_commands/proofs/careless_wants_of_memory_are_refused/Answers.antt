@@ -9,12 +9,14 @@ use Rattle.image_outside.specs.Told.{BankTold, ShelfTold}
 use Rattle.image_words.specs.Words.{ImageWord, serials_named}
 use Rattle.image_verdict.specs.declared.images.ImageRead.{ImageRead}
 use Rattle.image_verdict.specs.Images.{HasReadFirst, anchor_reads, sizes_of_all}
+use Rattle.image_assemble.specs.Endings.{HasLookedFirst}
 use Rattle.image_run.specs.Openings.{OpensAll, OpensFront, paths_named}
 use Rattle.image_run.specs.Outside.{Outside}
-use Rattle.image_run.specs.Requests.{Assemble, Replay}
+use Rattle.image_run.specs.Requests.{Assemble, Incremental, Replay}
 use Rattle.image_run.specs.Runs.{LeavesReplay, OnFront}
 use Rattle.refused_commands.specs.Wrong.{TellsOfOne, read_of}
 use Rattle.refused_commands.proofs.Anchors.{one_read, the_read, two_not_one}
+use Rattle.refused_commands.proofs.Looks.{not_looked_twice}
 use Rattle.refused_commands.proofs.Memory.{leaves_some, not_nine}
 use Rattle.refused_commands.proofs.Pairs.{opens_pair}
 use Rattle.refused_commands.proofs.careless_wants_of_memory_are_refused.Goals as goal
@@ -69,17 +71,33 @@ not_uncalled n bank tells uncalled =
 held : {P : BankTold → Type 0} {names : List ImageWord} {before after : ShelfTold} (bank : BankTold) → after.bank ≡ Some bank → OpensAll names before after P → P bank
 held {P} {names} bank is opens = (subst (λ (h : Option BankTold). IsSomeAnd h (λ b. (b.serials ≡ serials_named names) × P b)) is opens.bank).1
 
-left_twice : (n : ℕ) (images : List ImageWord) (before after : ShelfTold) (bank : BankTold) → TellsOfOne n (read_of (anchor_place n) ∷ read_of (anchor_place n) ∷ []) bank
-    → after.bank ≡ Some bank → OnFront images before after HasReadFirst → ⊥
-left_twice n images before after bank tells is (inl front) = not_uncalled n bank tells (held bank is front.opened)
-left_twice n images before after bank tells is (inr all) = not_twice n bank tells (held bank is all)
+module _ (n : ℕ) (images : List ImageWord) (before after : ShelfTold) (bank : BankTold) (tells : TellsOfOne n (read_of (anchor_place n) ∷ read_of (anchor_place n) ∷ []) bank) (is : after.bank ≡ Some bank) where
+  front_twice : OpensFront images before after → ⊥
+  front_twice front = not_uncalled n bank tells (held bank is front.opened)
+
+  left_twice : OnFront images before after HasLookedFirst → ⊥
+  left_twice (inl front) = front_twice front
+  left_twice (inr all) = not_looked_twice n bank tells (held bank is all)
+
+replayed_twice : (n : ℕ) (images : List ImageWord) (before after : Outside) (bank : BankTold) → TellsOfOne n (read_of (anchor_place n) ∷ read_of (anchor_place n) ∷ []) bank → after.shelf.bank ≡ Some bank
+    → LeavesReplay images before after → ⊥
+replayed_twice n images before after bank tells is (inl front) = front_twice n images before.shelf after.shelf bank tells is front.1
+replayed_twice n images before after bank tells is (inr all) = not_twice n bank tells (held bank is all.1)
 
 pub returns-clause-twice : goal.returns-clause-twice
-returns-clause-twice c n images before after bank tells is (inl ends) = not_nine (Assemble images) before after ends
-returns-clause-twice c n images before after bank tells is (inr memory) = left_twice n images before.shelf after.shelf bank tells is memory.2.1
+returns-clause-twice c limit n images before after bank tells is (inl ends) = not_nine (Replay limit images) before after ends
+returns-clause-twice c limit n images before after bank tells is (inr memory) = replayed_twice n images before after bank tells is memory.2
+
+pub returns-clause-twice_assembled : goal.returns-clause-twice_assembled
+returns-clause-twice_assembled c run n images before after bank tells is (inl ends) = not_nine (Assemble run images) before after ends
+returns-clause-twice_assembled c run n images before after bank tells is (inr memory) = left_twice n images before.shelf after.shelf bank tells is memory.2.1
+
+pub returns-clause-twice_arrived : goal.returns-clause-twice_arrived
+returns-clause-twice_arrived c run n images before after bank tells is (inl ends) = not_nine (Incremental run images) before after ends
+returns-clause-twice_arrived c run n images before after bank tells is (inr memory) = left_twice n images before.shelf after.shelf bank tells is memory.2.1
 
 pub returns-clause-opened : goal.returns-clause-opened
-returns-clause-opened c a b before after bank holds uncalled same ends =
+returns-clause-opened c run a b before after bank holds uncalled same ends =
     let both : OpensFront (a ∷ b ∷ []) before.shelf after.shelf = record {
       front = a ∷ b ∷ [];
       rest = [];

@@ -30,4 +30,7 @@ returns-clause-faultless c limit images before after lines still done = elim don
 ]
 
 pub returns-clause-greedy : goal.returns-clause-greedy
-returns-clause-greedy c images before after lines status differs done = differs done.0
+returns-clause-greedy c run images before after lines status differs done = differs done.0
+
+pub returns-clause-greedy_arrival : goal.returns-clause-greedy_arrival
+returns-clause-greedy_arrival c run images before after lines status differs done = differs done.0

@@ -1,15 +1,16 @@
-use Rattle.std.proofs.Common.{◌≡◌, ◌≢◌, ℕ, List, [], ◌∷◌, ◌++◌, sym, subst, ◌∙◌, Option, inl, inr}
+use Rattle.std.proofs.Common.{◌≡◌, ◌≢◌, ℕ, List, [], ◌∷◌, ◌++◌, sym, subst, ◌∙◌, inl, inr}
 use Rattle.std.proofs.lemmas.List.{append_cancel_left}
 use Rattle.image_outside.specs.Told.{BankTold, ShelfTold}
 use Rattle.image_words.specs.Words.{ImageWord}
-use Rattle.image_verdict.specs.Endings.{Reports}
+use Rattle.image_assemble.specs.Endings.{Assembles}
+use Rattle.image_incremental.specs.Endings.{Arrives}
 use Rattle.image_examine.specs.Endings.{Examines}
 use Rattle.image_create.specs.Creates.{CreatesBy}
 use Rattle.image_replay.specs.Replays.{ReplaysBy}
 use Rattle.image_outside.specs.Shelves.{IsUncalled}
 use Rattle.image_run.specs.Does.{OnImages}
 use Rattle.image_run.specs.Openings.{OpensAll, OpensNot, paths_named}
-use Rattle.image_run.specs.Requests.{NotWords, TooManyImages, Assemble, Examine, Create, Replay}
+use Rattle.image_run.specs.Requests.{NotWords, TooManyImages, Assemble, Incremental, Examine, Create, Replay}
 use Rattle.refused_commands.proofs.Pairs.{opens_pair}
 use Rattle.refused_commands.proofs.swapped_files_are_refused.Goals as goal
 use Rattle.image_words.proofs.Asked.{first_same}
@@ -43,8 +44,10 @@ module _ (a b : ImageWord) (apart : a.file ≢ b.file) (before after : ShelfTold
 pub returns-clause-swapped : goal.returns-clause-swapped
 returns-clause-swapped c NotWords a b before after lines status is apart swapped done = cc is
 returns-clause-swapped c TooManyImages a b before after lines status is apart swapped done = cc is
-returns-clause-swapped c (Assemble images) a b before after lines status is apart swapped done =
-    not_on a b apart before.shelf after.shelf swapped images is Reports lines status done.1
+returns-clause-swapped c (Assemble run images) a b before after lines status is apart swapped done =
+    not_on a b apart before.shelf after.shelf swapped images is (Assembles run) lines status done.1
+returns-clause-swapped c (Incremental run images) a b before after lines status is apart swapped done =
+    not_on a b apart before.shelf after.shelf swapped images is (Arrives run) lines status done.1
 returns-clause-swapped c (Examine images) a b before after lines status is apart swapped done =
     not_on a b apart before.shelf after.shelf swapped images is Examines lines status done.1
 returns-clause-swapped c (Create made images) a b before after lines status is apart swapped done =
@@ -57,8 +60,12 @@ returns-clause-swapped c (Replay limit images) a b before after lines status is 
     not_all a b apart before.shelf after.shelf swapped images is (λ bank. ReplaysBy done.script limit bank lines status) done.opened
 
 pub returns-clause-assembled : goal.returns-clause-assembled
-returns-clause-assembled c a b before after bank lines status holds same reports =
-    (same, inr (opens_pair a b before.shelf after.shelf bank (λ bank. Reports bank lines status) holds reports))
+returns-clause-assembled c run a b before after bank lines status holds same assembles =
+    (same, inr (opens_pair a b before.shelf after.shelf bank (λ bank. Assembles run bank lines status) holds assembles))
+
+pub returns-clause-arrived : goal.returns-clause-arrived
+returns-clause-arrived c run a b before after bank lines status holds same arrives =
+    (same, inr (opens_pair a b before.shelf after.shelf bank (λ bank. Arrives run bank lines status) holds arrives))
 
 pub returns-clause-created : goal.returns-clause-created
 returns-clause-created c made a b before after bank lines status holds same creates =

@@ -3,10 +3,11 @@ use Rattle.image_words.specs.Args.{words_of}
 use Rattle.image_words.specs.declared.verbs.Verb.TheVariants as verbs
 use Rattle.image_create.specs.Creates.{CreatesBy}
 use Rattle.image_examine.specs.Endings.{Examines}
-use Rattle.image_verdict.specs.Endings.{Reports}
+use Rattle.image_assemble.specs.Endings.{Assembles}
+use Rattle.image_incremental.specs.Endings.{Arrives}
 use Rattle.image_run.specs.Does.{OnImages, ReplayEnds}
 use Rattle.image_run.specs.Outside.{outside_told}
-use Rattle.image_run.specs.Requests.{Request, Assemble, Create, Examine, Replay}
+use Rattle.image_run.specs.Requests.{Request, Assemble, Create, Examine, Incremental, Replay}
 use Rattle.image_run.specs.Runs.{Carries}
 use Rattle.image_run.proofs.Carried.{carries, same}
 use Rattle.image_run.proofs.command.carry_out.Goals as goal
@@ -18,9 +19,22 @@ returns-in-Assemble g c =
     let before = outside c.args.shelf.now c.args.source.now c.args.sink.now in
     let after = outside done.new.shelf c.args.source.now done.new.sink in
     let images = words_of c.as_slice.result.now in
+    let run = c.in-Assemble.run' in
     subst (λ (r : Request). Carries r before after done.result.0)
-    (sym (same c.args.command.verb (words_of c.args.command.images.items) verbs.Assemble images (c.in-Assemble.is, sym (ap words_of c.as_slice.ensures.value))))
-    (carries (Assemble images) before after (OnImages images before.shelf after.shelf Reports) done.result.0 (λ lines s so. (refl, so)) (λ is. (refl, done.ensures.leaves)) done.ensures.ends)
+    (sym (same c.args.command.verb (words_of c.args.command.images.items) (verbs.Assemble run) images (c.in-Assemble.is, sym (ap words_of c.as_slice.ensures.value))))
+    (carries (Assemble run images) before after (OnImages images before.shelf after.shelf (Assembles run)) done.result.0 (λ lines s so. (refl, so)) (λ is. (refl, done.ensures.leaves)) done.ensures.ends)
+
+pub returns-in-Incremental : goal.returns-in-Incremental
+returns-in-Incremental g c =
+    let outside = outside_told g.H.Shelf g.H.Held.Bank g.S.Source g.K.Sink in
+    let done = c.arrive_images in
+    let before = outside c.args.shelf.now c.args.source.now c.args.sink.now in
+    let after = outside done.new.shelf c.args.source.now done.new.sink in
+    let images = words_of c.as_slice-in-Incremental.result.now in
+    let run = c.in-Incremental.run' in
+    subst (λ (r : Request). Carries r before after done.result.0)
+    (sym (same c.args.command.verb (words_of c.args.command.images.items) (verbs.Incremental run) images (c.in-Incremental.is, sym (ap words_of c.as_slice-in-Incremental.ensures.value))))
+    (carries (Incremental run images) before after (OnImages images before.shelf after.shelf (Arrives run)) done.result.0 (λ lines s so. (refl, so)) (λ is. (refl, done.ensures.leaves)) done.ensures.ends)
 
 pub returns-in-Examine : goal.returns-in-Examine
 returns-in-Examine g c =
