@@ -52,31 +52,73 @@ mod tests {
     use std::os::unix::fs::FileExt;
     use std::test::Fail;
 
-    const ANCHOR: u64 = 4094 * 512;
-
-    /// An image of 4,096 sectors with the metadata block of a new mirror of two disks, A and B. All other bytes are 0.
-    fn write_image(rt: &HostRuntime, path: &str) -> io::Result<()> {
+    /// Makes a file with a metadata block, whose anchor begins at a byte, and one sector behind it. Bytes are put at
+    /// these places of the block; all others are 0.
+    fn write_block(
+        rt: &HostRuntime,
+        path: &str,
+        anchor: u64,
+        parts: &[(u64, &[u8])],
+    ) -> io::Result<()> {
         let file = File::create(rt, path)?;
-        file.set_len(4096 * 512)?;
-        file.write_all_at(b"Intel Raid ISM Cfg Sig. 1.3.00", ANCHOR)?;
-        let header = [
-            0x0b, 0x51, 0x70, 0x47, 0xe0, 1, 0, 0, 0x59, 0x70, 0x25, 0x6d, 1,
-        ];
-        file.write_all_at(&header, ANCHOR + 32)?;
-        file.write_all_at(
-            &[2, 1, 0, 0, 0, 0, 0, 0, 0x59, 0x70, 0x25, 0x6d],
-            ANCHOR + 56,
-        )?;
+        file.write_all_at(&[0; 512], anchor.saturating_add(512))?;
+        for (at, bytes) in parts {
+            file.write_all_at(bytes, anchor.saturating_add(*at))?;
+        }
+        Ok(())
+    }
+
+    /// An image of 4,096 sectors with the metadata block of a new mirror of two disks, A and B.
+    fn write_image(rt: &HostRuntime, path: &str) -> io::Result<()> {
         let disk = [0, 0x10, 0, 0, 0, 0, 0, 0, 2];
-        file.write_all_at(b"A", ANCHOR + 216)?;
-        file.write_all_at(&disk, ANCHOR + 232)?;
-        file.write_all_at(b"B", ANCHOR + 264)?;
-        file.write_all_at(&disk, ANCHOR + 280)?;
-        file.write_all_at(b"Volume0", ANCHOR + 312)?;
-        file.write_all_at(&[4], ANCHOR + 329)?;
-        let map = [4, 0, 0, 8, 0, 0, 0, 0x80, 0, 0, 1, 2, 2, 0xff, 1];
-        file.write_all_at(&map, ANCHOR + 429)?;
-        file.write_all_at(&[1], ANCHOR + 476)
+        write_block(
+            rt,
+            path,
+            4094 * 512,
+            &[
+                (0, b"Intel Raid ISM Cfg Sig. 1.3.00"),
+                (32, &[0x0b, 0x51, 0x70, 0x47, 0xe0, 1, 0, 0]),
+                (40, &[0x59, 0x70, 0x25, 0x6d, 1]),
+                (56, &[2, 1, 0, 0, 0, 0, 0, 0, 0x59, 0x70, 0x25, 0x6d]),
+                (216, b"A"),
+                (232, &disk),
+                (264, b"B"),
+                (280, &disk),
+                (312, b"Volume0"),
+                (329, &[4]),
+                (429, &[4, 0, 0, 8, 0, 0, 0, 0x80, 0, 0, 1, 2, 2, 0xff, 1]),
+                (476, &[1]),
+            ],
+        )
+    }
+
+    /// An image of 976,773,168 sectors, of which all but its last two are a hole, with the metadata block of a mirror
+    /// of 927,989,760 rows over two such disks.
+    fn write_large_image(rt: &HostRuntime, path: &str) -> io::Result<()> {
+        write_block(
+            rt,
+            path,
+            976_773_166 * 512,
+            &[
+                (0, b"Intel Raid ISM Cfg Sig. 1.1.00"),
+                (32, &[0x26, 0x2e, 0x02, 0xcd, 0xe0, 1, 0, 0]),
+                (40, &[0xc4, 0xb2, 0x31, 0x53, 0x73, 7]),
+                (55, &[0x80, 2, 1, 0, 0, 0, 0, 0, 0, 0xc4, 0xb2, 0x31, 0x53]),
+                (216, b"S2R6NX0H100001"),
+                (232, &[0x30, 0x60, 0x38, 0x3a, 0, 0, 0, 0, 0x3a, 1]),
+                (264, b"S2R6NX0H100002"),
+                (280, &[0x30, 0x60, 0x38, 0x3a, 0, 0, 1, 0, 0x3a, 1]),
+                (312, b"Main"),
+                (328, &[0, 0, 0x50, 0x37]),
+                (
+                    428,
+                    &[
+                        0, 1, 0x50, 0x37, 0, 0x50, 0x37, 0, 0x80, 0, 0, 1, 2, 2, 0xff, 1,
+                    ],
+                ),
+                (476, &[1]),
+            ],
+        )
     }
 
     fn run<K: Sink>(
@@ -160,6 +202,22 @@ mod tests {
             assert!(rt; has_no_b(&rt, &["assemble", "A=a.img", missing], "")?);
         }
         fs::remove_file(&rt, "a.img")?;
+        Ok(())
+    }
+
+    #[test]
+    fn a_mirror_of_realistic_size_starts_from_sparse_files(rt: HostRuntime) -> Result<(), Fail> {
+        write_large_image(&rt, "g.img")?;
+        write_large_image(&rt, "h.img")?;
+        let both = ["assemble", "S2R6NX0H100001=g.img", "S2R6NX0H100002=h.img"];
+        let mut lines = Vec::new(rt.alloc());
+        assert_eq!(rt; run(&rt, &both, "", &mut OutSink::new(&mut lines))?, 0);
+        let told =
+            b"family 5331b2c4 generation 1907\nvolume 0 started\ndisk S2R6NX0H100001 member\n\
+            disk S2R6NX0H100002 member\n";
+        assert_eq!(rt; lines.as_slice(), told.as_slice());
+        fs::remove_file(&rt, "g.img")?;
+        fs::remove_file(&rt, "h.img")?;
         Ok(())
     }
 
