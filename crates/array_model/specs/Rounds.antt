@@ -34,11 +34,13 @@ begun_from g found (e ∷ es) = begun_from g (begun_at g found e.stamp e.event) 
 abbrev pub begun : ℕ → List Entry → Option ℕ
 begun g journal = begun_from g None journal
 
--- the block of a round: the log writes it to some disk after the round began, and it has the round's generation
+-- the block of a round: the log writes it to some disk after the round began, it has the round's generation, and it is
+-- a container's. So what the same log writes to a spare under that generation is never taken for it.
 pub record IsRound (start : Start) (log : List Call) (stamp g : ℕ) (m : Laid) : Type 0 where
   pub disk : ℕ
   pub written : In m (writes start.words start.disks disk (drop stamp log))
   pub generation : start.words.generation m.anchor ≡ g
+  pub container : is_container start.words m ≡ true
 
 abbrev pub IsFinishedBy : Start → List Call → List Entry → Laid → Option ℕ → Type 0
 IsFinishedBy start log journal m None = m ≡ start.newest
@@ -54,9 +56,11 @@ pub record HasFinished (start : Start) (log : List Call) (journal : List Entry) 
   pub is : IsFinished start log journal block
   pub one : (m : Laid) → IsFinished start log journal m → m ≡ block
 
--- the block of a round that begins is a container's
+-- each block that the log writes behind a begin with its generation, on whatever disk, is a container's
 abbrev pub BeginsContainer : Start → List Call → ℕ → Event → Type 0
-BeginsContainer start log stamp (Begin g) = (m : Laid) → IsRound start log stamp g m → is_container start.words m ≡ true
+BeginsContainer start log stamp (Begin g) =
+    (m : Laid) (d : ℕ) → In m (writes start.words start.disks d (drop stamp log))
+    → start.words.generation m.anchor ≡ g → is_container start.words m ≡ true
 BeginsContainer start log stamp _ = ⊤
 
 -- a member works where the block of the last finished round expects it and it has no fault

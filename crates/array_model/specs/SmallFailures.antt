@@ -46,6 +46,25 @@ faulty_journal = at 0 (Fault second_disk) ∷ at 0 (Begin 2) ∷ at 2 (End 2) �
 abbrev pub forgetful_journal : List Entry
 forgetful_journal = at 0 (Begin 2) ∷ at 2 (End 2) ∷ []
 
+-- A SPARE: its block has the generation alone, and no volume
+
+abbrev pub spare_block : ℕ → Sector
+spare_block generation = record { 0 = generation ∷ [] }
+
+abbrev pub sparing_words : Words
+sparing_words = record small_words { volumes = λ m. if length m.anchor.0 == 3 then 1 else 0 }
+
+abbrev pub sparing_start : Start
+sparing_start = record small_start { words = sparing_words }
+
+-- the round's block is written to the first disk, and a spare's of the same generation to the second
+abbrev pub sparing_log : List Call
+sparing_log = puts 0 4094 (block 2 0 0) ∷ syncs 0 ∷ puts 1 4094 (spare_block 2) ∷ syncs 1 ∷ []
+
+-- the same, but for the first disk's block
+abbrev pub spares_log : List Call
+spares_log = puts 1 4094 (spare_block 2) ∷ syncs 1 ∷ []
+
 -- a block of four bytes
 abbrev pub with_fourth : (generation fourth : ℕ) → Sector
 with_fourth generation fourth = record { 0 = generation ∷ 0 ∷ 0 ∷ fourth ∷ [] }

@@ -1,5 +1,5 @@
 -- The block of each round that begins is a container's.
-use Rattle.std.proofs.Common.{ℕ, ◌==◌, true, false, if◌then◌else◌, List, [], ◌∷◌, ◌++◌, ap, ◌∙◌}
+use Rattle.std.proofs.Common.{ℕ, List, [], ◌∷◌, ◌++◌}
 use Rattle.std.specs.List.{AllByRecursion}
 use Rattle.device_log.specs.Log.{Call}
 use Rattle.array_model.specs.declared.journal.Entry.{Entry}
@@ -11,12 +11,13 @@ use Rattle.array_model.specs.Renewal.{FitsGeneration}
 use Rattle.stage_machine.specs.Setting.{Setting, Renews}
 use Rattle.stage_machine.specs.Opens.{StandsOnAll, IsFirstVolume}
 use Rattle.stage_machine.specs.Machine.{World, Reached}
-use Rattle.stage_machine.proofs.Finished.{IsFine, fine_reached, round_good}
+use Rattle.stage_machine.proofs.Stands.{same_container}
+use Rattle.stage_machine.proofs.Finished.{IsFine, fine_reached, written_good}
 
 module _ (S : Setting) (on : StandsOnAll S) (volume : IsFirstVolume S) (log : List Call) (fine : AllByRecursion (IsFine S) log) where
   -- it says what the newest at opening says
   begins_container : (stamp : ℕ) (e : Event) → BeginsContainer S.start log stamp e
-  begins_container stamp (Begin g) = λ m round. ap (λ n. if n == 0 then false else true) (round_good S volume log stamp g m fine round).container ∙ on.container
+  begins_container stamp (Begin g) = λ m d written generation. same_container S on m (written_good S volume log stamp d m fine written)
   begins_container stamp _ = tt
 
   begin_containers : (front journal : List Entry) → AtEachFrom (λ before e. BeginsContainer S.start log e.stamp e.event) front journal

@@ -10,7 +10,7 @@ use Rattle.array_model.specs.declared.journal.Entry.{Entry}
 use Rattle.array_model.specs.declared.journal.Event.{Event}
 use Rattle.array_model.specs.declared.journal.Event.TheVariants.{Begin, End, Submit, Ack, Ready, Active, Clean, Idle}
 use Rattle.array_model.specs.declared.journal.Answer.TheVariants.{Past}
-use Rattle.array_model.specs.Blocks.{Laid}
+use Rattle.array_model.specs.Blocks.{Laid, is_container}
 use Rattle.array_model.specs.Candidates.{In, writes}
 use Rattle.array_model.specs.Moments.{Always}
 use Rattle.array_model.specs.Rounds.{IsFinished, IsFinishedBy, HasFinished, ended, ended_from, ended_at, begun, begun_from, begun_at}
@@ -23,7 +23,7 @@ use Rattle.stage_machine.specs.Machine.{Control, World, Action, Reached, opens, 
 use Rattle.stage_machine.proofs.Turns.{Turns, turns_of, nothing, fails, anchors, settles, ends, begins, readies, actives, cleans, rests, pasts, asks_read, asks_write, puts, syncs, gets, acks}
 use Rattle.stage_machine.proofs.Moments.{always_more, always_none, EachFront, counted_reached}
 use Rattle.stage_machine.proofs.Clients.{Mine, mine_reached}
-use Rattle.stage_machine.proofs.Stands.{GoodRound, going_good, good_reached, renewed, fitted}
+use Rattle.stage_machine.proofs.Stands.{GoodRound, same_container, going_good, good_reached, renewed, fitted}
 use Rattle.stage_machine.proofs.Finished.{LeftIn, left_reached}
 use Rattle.stage_machine.proofs.Marks.{AllMarks, all_marks_map, written_marks}
 use Rattle.round_law.proofs.Facts.{gen, KindOf, kind_turns, marks_more, writes_grow, writes_anchor, longer}
@@ -56,6 +56,7 @@ pub record Done (S : Setting) (last : Laid) (log : List Call) (journal : List En
   pub ended_as : ended journal ≡ Some (gen S last)
   pub disk : ℕ
   pub written : In last (writes S.start.words S.start.disks disk (drop stamp log))
+  pub container : is_container S.start.words last ≡ true
 
 pub record Facts (S : Setting) (last : Laid) (started : Bool) (log : List Call) (journal : List Entry) : Type 0 where
   pub before : started ≡ false → (last ≡ S.start.newest) × (ended journal ≡ None)
@@ -95,7 +96,7 @@ module _ (S : Setting) (volume : IsFirstVolume S) where
   is_finished last false log journal facts = let was = facts.before refl in subst (IsFinishedBy S.start log journal last) (sym was.1) was.0
   is_finished last true log journal facts =
       let done = facts.done refl in
-      subst (IsFinishedBy S.start log journal last) (sym done.ended_as) (done.stamp, done.begun_at, record { disk = done.disk; written = done.written; generation = refl })
+      subst (IsFinishedBy S.start log journal last) (sym done.ended_as) (done.stamp, done.begun_at, record { disk = done.disk; written = done.written; generation = refl; container = done.container })
 
   -- one block, and no other
   pub has_finished : (last : Laid) (started : Bool) (log : List Call) (journal : List Entry) → Facts S last started log journal → HasFinished S.start log journal
@@ -137,6 +138,7 @@ module _ (S : Setting) (volume : IsFirstVolume S) where
             ended_as = ended-append None journal new ∙ hush.ends (ended journal) ∙ d.ended_as;
             disk = d.disk;
             written = writes_grow S volume d.disk d.stamp c.round.last log x d.short d.written;
+            container = d.container;
           };
       one = λ yet. marks_more S (λ m. gen S m ≡ gen S c.round.last → m ≡ c.round.last) c good left
           (λ m rest is. let u = anchor_is m rest is in λ same. absurd (let above = u.above yet in let of_round = u.gen_is in omega (arith, above, of_round, same)))
@@ -260,6 +262,7 @@ module _ (S : Setting) (renews : Renews S) (on : StandsOnAll S) (volume : IsFirs
             ended_as = ended-append None journal (record { stamp = n + 1; event = End (gen S m) } ∷ []);
             disk = d;
             written = writes_grow S volume d going.0.stamp m log (Some x) going.0.short going.1;
+            container = same_container S on m (going_good S c.round m AtSync (d ∷ []) good is).same;
           };
           one = λ yet. all_marks_map S (λ a. gen S a ≡ c.round.note → a ≡ m) (λ a. gen S a ≡ gen S m → a ≡ m) (λ a f same. f (same ∙ going.0.gen_is)) (log ++ x ∷ []) u.one;
         };

@@ -1,5 +1,5 @@
 -- Which calls a run makes, and what the blocks have in common that it writes.
-use Rattle.std.proofs.Common.{◌≡◌, ℕ, zero, suc, ◌+◌, ◌<◌, true, List, [], ◌∷◌, take, refl, sym, ◌∙◌, subst, Option, Some, None}
+use Rattle.std.proofs.Common.{◌≡◌, ℕ, zero, suc, ◌+◌, ◌<◌, true, List, [], ◌∷◌, take, drop, refl, sym, ◌∙◌, subst, Option, Some, None}
 use Rattle.std.specs.Prelude.{⊤}
 use Rattle.std.specs.List.{AllByRecursion}
 use Rattle.units.specs.declared.disk.Sector.{Sector}
@@ -8,7 +8,7 @@ use Rattle.device_log.specs.Log.{Call, What, Read, Write, Sync}
 use Rattle.array_model.specs.declared.journal.Entry.{Entry}
 use Rattle.array_model.specs.declared.journal.Event.{Event}
 use Rattle.array_model.specs.Blocks.{Laid}
-use Rattle.array_model.specs.Candidates.{writes}
+use Rattle.array_model.specs.Candidates.{In, writes}
 use Rattle.array_model.specs.Rounds.{IsFinished, IsFinishedBy, IsRound, ended}
 use Rattle.array_model.proofs.Journals.{all-append, all_map}
 use Rattle.array_model.specs.Renewal.{FitsGeneration, SaysSame}
@@ -128,10 +128,13 @@ all_fine_marks : (S : Setting) (log : List Call) → AllByRecursion (IsFine S) l
 all_fine_marks S log fine = all_map (IsFine S) (λ call. Marks S (Good S) call.disk call.what) (λ call h. fine_marks S call.disk call.what h) log fine
 
 module _ (S : Setting) (volume : IsFirstVolume S) where
-  -- a block that the log writes for a round is a good one
+  -- a block that the log writes behind some call is a good one
+  pub written_good : (log : List Call) (stamp d : ℕ) (m : Laid) → AllByRecursion (IsFine S) log → In m (writes S.start.words S.start.disks d (drop stamp log)) → SaysSame S.start.words m S.start.newest
+  written_good log stamp d m fine written = (written_marks S volume (Good S) log stamp d m (all_fine_marks S log fine) written).same
+
+  -- so is that of a round
   pub round_good : (log : List Call) (stamp g : ℕ) (m : Laid) → AllByRecursion (IsFine S) log → IsRound S.start log stamp g m → SaysSame S.start.words m S.start.newest
-  round_good log stamp g m fine round =
-      (written_marks S volume (Good S) log stamp round.disk m (all_fine_marks S log fine) round.written).same
+  round_good log stamp g m fine round = written_good log stamp round.disk m fine round.written
 
   -- so is the block of the last finished round
   pub finished_good : StandsOnAll S → (log : List Call) (journal : List Entry) (m : Laid) → AllByRecursion (IsFine S) log → IsFinished S.start log journal m → SaysSame S.start.words m S.start.newest

@@ -8,7 +8,7 @@ use Rattle.units.specs.declared.bounds.TheConstants.{METADATA_SECTORS}
 use Rattle.units.specs.Places.{anchor_place}
 use Rattle.device_log.specs.Log.{Call, What, Read, Write, Sync}
 use Rattle.device_log.specs.Cells.{Cell, brought}
-use Rattle.array_model.specs.Blocks.{Laid, Words}
+use Rattle.array_model.specs.Blocks.{Laid, Words, is_container}
 use Rattle.array_model.specs.Candidates.{Disk, In, is_among, standing, counted, disk_at}
 use Rattle.array_model.specs.Renewal.{FitsGeneration, SaysSame, IsRenewable, IsRenewed}
 use Rattle.stage_machine.specs.Setting.{Setting, Renews, has_disk}
@@ -44,12 +44,16 @@ pub record GoodRound (S : Setting) (r : Round) : Type 0 where
 pub going_good : (S : Setting) (r : Round) (m : Laid) (step : Step) (left : List ℕ) → GoodRound S r → r.phase ≡ Going m step left → Good S m
 going_good S r m step left good is = subst (GoodPhase S) is good.phase
 
+-- a block that says what the newest at opening says is a container's
+pub same_container : (S : Setting) → StandsOnAll S → (m : Laid) → SaysSame S.start.words m S.start.newest → is_container S.start.words m ≡ true
+same_container S on m same = ap (λ n. if n == 0 then false else true) same.container ∙ on.container
+
 -- it may be renewed, where there is a target
 good_renewable : (S : Setting) → StandsOnAll S → (m : Laid) (d : ℕ) → has_disk d S.targets ≡ true → Good S m → IsRenewable S.start.words m
 good_renewable S on m d target good = record {
   alone = good.alone.extra;
   short = good.alone.short;
-  container = ap (λ n. if n == 0 then false else true) good.same.container ∙ on.container;
+  container = same_container S on m good.same;
   serial = S.start.disks.serial d;
   sectors = S.start.disks.sectors d;
   whole = good.whole d target;

@@ -10,7 +10,7 @@ returns-clause-early c ended limit calls admitted = c.example_of_the_write_gate.
 pub returns-clause-undirtied : goal.returns-clause-undirtied
 returns-clause-undirtied c ended limit calls admitted =
     let second : Laid = record { anchor = block 3 0 0; extended = [] } in
-    let durable = admitted.kept.gate.at_active.1.1.1.1.1.1.1.0 second (4, refl, record { disk = 0; written = inl refl; generation = refl }) 0 (record { expected = refl; sound = refl }) in
+    let durable = admitted.kept.gate.at_active.1.1.1.1.1.1.1.0 second (4, refl, record { disk = 0; written = inl refl; generation = refl; container = refl }) 0 (record { expected = refl; sound = refl }) in
     let dirty : false ≡ true = durable.each.0 in
     cc dirty
 

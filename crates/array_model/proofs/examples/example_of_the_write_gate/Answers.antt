@@ -63,6 +63,6 @@ returns-clause-meets c = record {
 pub returns-clause-early : goal.returns-clause-early
 returns-clause-early c law =
     let second : Laid = record { anchor = block 2 0 0; extended = [] } in
-    let durable = law.at_active.1.1.1.1.1.1.0 second (0, refl, record { disk = 1; written = inl refl; generation = refl }) 1 (record { expected = refl; sound = refl }) in
+    let durable = law.at_active.1.1.1.1.1.1.0 second (0, refl, record { disk = 1; written = inl refl; generation = refl; container = refl }) 1 (record { expected = refl; sound = refl }) in
     let dirty : false ≡ true = durable.each.0 in
     cc dirty

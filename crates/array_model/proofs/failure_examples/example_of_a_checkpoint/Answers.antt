@@ -45,7 +45,7 @@ returns-clause-meets c = record {
 pub returns-clause-behind : goal.returns-clause-behind
 returns-clause-behind c law =
     let m : Laid = record { anchor = with_fourth 2 0; extended = [] } in
-    let counted = law.units.1.0 0 0 m refl (record { disk = 0; written = inl refl; generation = refl }) in
+    let counted = law.units.1.0 0 0 m refl (record { disk = 0; written = inl refl; generation = refl; container = refl }) in
     let reads : ReadsRow (passing_from (Some 0)) m 0 1024 (gets 0 1024) = record { what = refl; below = omega arith; slot = 0; member = record { words = small_slot m 0 (65 ∷ []); there = refl; same = refl } } in
     let least : 8 * (1024 / 1024) ≤ 0 = counted.0 (omega arith) (omega arith) 1024 reads (λ i s kind none. absurd cc) (search rules) in
     omega (arith, least)

@@ -21,7 +21,7 @@ returns-clause-meets c = record {
 pub returns-clause-member : goal.returns-clause-member
 returns-clause-member c law =
     let dropped : Laid = record { anchor = degraded 2; extended = [] } in
-    let kept = law.keeps.0 dropped small_start.newest (record { disk = 0; written = inl refl; generation = refl }) refl in
+    let kept = law.keeps.0 dropped small_start.newest (record { disk = 0; written = inl refl; generation = refl; container = refl }) refl in
     elim (kept.expected (66 ∷ []) refl) [
       | inl expected ↦ (let none : false ≡ true = expected in cc none)
       | inr lost ↦ (let none : false ≡ true = lost in cc none)
@@ -30,7 +30,7 @@ returns-clause-member c law =
 pub returns-clause-slot : goal.returns-clause-slot
 returns-clause-slot c law =
     let rebuilt : Laid = record { anchor = with_fourth 2 66; extended = [] } in
-    let kept = law.keeps.0 rebuilt small_start.newest (record { disk = 0; written = inl refl; generation = refl }) refl in
+    let kept = law.keeps.0 rebuilt small_start.newest (record { disk = 0; written = inl refl; generation = refl; container = refl }) refl in
     elim (kept.in_sync 0 1 (second_slot small_start.newest) refl refl refl) [
       | inl after ↦ (
           let same : second_slot rebuilt ≡ after.0 = cc after.1 in
