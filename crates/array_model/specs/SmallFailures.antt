@@ -9,6 +9,7 @@ use Rattle.array_model.specs.declared.script.OpKind.TheVariants.{Whole}
 use Rattle.array_model.specs.declared.journal.Entry.{Entry}
 use Rattle.array_model.specs.declared.journal.Event.TheVariants.{Begin, End, Ready, Pass, Point, Submit, Ack, Fault}
 use Rattle.array_model.specs.declared.journal.Answer.{Answer}
+use Rattle.array_model.specs.declared.journal.Answer.TheVariants.{Done}
 use Rattle.array_model.specs.Script.{Asked}
 use Rattle.array_model.specs.Blocks.{Words, Laid, SlotWords}
 use Rattle.array_model.specs.Start.{Start, Disks}
@@ -181,6 +182,11 @@ parity_start dirty = record small_start {
   disks = three_disks 4096;
   newest = record { anchor = block 1 dirty 0; extended = [] };
 }
+
+-- a write of sector 5, which lies on the first disk with its parity on the third, is acknowledged over a fault of the
+-- first that no block records
+abbrev pub parity_hasty : List Entry
+parity_hasty = at 0 (Submit 0) ∷ at 0 (Fault first_disk) ∷ at 0 (Ack 0 Done) ∷ []
 
 -- BLOCKS OF TWO SECTORS: the fourth byte of an anchor is how many extended sectors belong to it
 

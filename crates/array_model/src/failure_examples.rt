@@ -8,8 +8,8 @@ ghost use Rattle.array_model.specs.Rounds.{HasFinished, BeginsContainer};
 ghost use Rattle.array_model.specs.Form.{IsJournal};
 ghost use Rattle.array_model.specs.FailureLaw.{FailureLaw};
 ghost use Rattle.array_model.specs.AnswerLaw.{AnswerLaw};
-ghost use Rattle.array_model.specs.Small.{small_start, syncs, gets};
-ghost use Rattle.array_model.specs.SmallFailures.{nothing_asked, degraded_start, dropping_log, rebuilding_start, rebuilding_log, faulty_journal, forgetful_journal, sparing_start, sparing_log, spares_log, passing_from, passing_log, passing_journal, pass_journal, point_journal, early_point_journal, uneven_point_journal, same_point_journal, whole_script, answered, spare_start, one_fault, two_faults, third_fault, parity_start, long_block, long_writes, long_candidates, long_mark, whole_block_log, failed_rest_log, anchor_log, parted_log, synced_between_log};
+ghost use Rattle.array_model.specs.Small.{small_start, write_and_read, syncs, gets};
+ghost use Rattle.array_model.specs.SmallFailures.{nothing_asked, degraded_start, dropping_log, rebuilding_start, rebuilding_log, faulty_journal, forgetful_journal, sparing_start, sparing_log, spares_log, parity_hasty, passing_from, passing_log, passing_journal, pass_journal, point_journal, early_point_journal, uneven_point_journal, same_point_journal, whole_script, answered, spare_start, one_fault, two_faults, third_fault, parity_start, long_block, long_writes, long_candidates, long_mark, whole_block_log, failed_rest_log, anchor_log, parted_log, synced_between_log};
 
 /// A round whose block calls a disk failed meets the failure law where the disk has a fault. Where it hasn't, the round
 /// forgets a member. Where its block has a slot out of sync on a healthy disk, it forgets the slot.
@@ -25,6 +25,12 @@ pub fn example_of_a_spare()
     ensures one { HasFinished sparing_start sparing_log forgetful_journal }
     ensures none { HasFinished sparing_start spares_log forgetful_journal → ⊥ }
     ensures begins { BeginsContainer sparing_start spares_log 0 (Begin 2) → ⊥ }
+{}
+
+/// A write on a parity volume is acknowledged over a fault of its sector's disk that no block records: refused, as on a
+/// mirror.
+pub fn example_of_a_parity_write()
+    ensures { FailureLaw (parity_start 0) write_and_read [] parity_hasty → ⊥ }
 {}
 
 /// A pass has come to row 1,024 when a round begins. With unit 8 in its block the failure law is met. With unit 0 the

@@ -10,8 +10,8 @@ use Rattle.units.specs.declared.volume.Level.TheVariants.{One, Five, Ten}
 use Rattle.units.specs.Levels.{rows_of}
 use Rattle.mpb_store.specs.Banks.{blank_sector}
 use Rattle.array_model.specs.Blocks.{Laid, Words, SlotWords}
-use Rattle.array_model.specs.Placement.{Placement}
-use Rattle.raid_map.specs.Layouts.{SlotPair, others, mirror_pair, sector_placement}
+use Rattle.array_model.specs.Placement.{Placement, SlotPair, others}
+use Rattle.raid_map.specs.Layouts.{mirror_pair, sector_placement}
 use Rattle.raid_map.proofs.Items.{length_others}
 use Rattle.raid_map.proofs.Stripes.{lies_at, mirror_is, five_below, ten_pair, rows_hold}
 use Rattle.sound_images.specs.Images.{Image}

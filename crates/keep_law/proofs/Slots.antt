@@ -8,11 +8,11 @@ use Rattle.units.specs.declared.volume.Level.{Level}
 use Rattle.units.specs.declared.volume.Level.TheVariants.{One, Five, Ten}
 use Rattle.units.specs.Levels.{suffices}
 use Rattle.array_model.specs.Blocks.{Laid, Words, SlotWords}
-use Rattle.array_model.specs.Placement.{Placement}
+use Rattle.array_model.specs.Placement.{Placement, others}
 use Rattle.container.specs.Volumes.{has_parity, pass_from}
 use Rattle.container.specs.declared.volume.VolumeVerdict.{VolumeVerdict}
 use Rattle.container.specs.declared.volume.VolumeVerdict.TheVariants.{Broken, Unfinished, Degraded, Started}
-use Rattle.raid_map.specs.Layouts.{others, sector_placement}
+use Rattle.raid_map.specs.Layouts.{sector_placement}
 use Rattle.raid_map.proofs.Stripes.{lies_at, mirror_is, five_below, ten_pair}
 use Rattle.sound_images.specs.Volumes.{slot_at, is_degraded, has_slot_to_fill, AgreesOnVolumes, HasMembers, StartsFrom}
 use Rattle.sound_images.specs.Rows.{first_in_sync, slots_read_at, slots_read}

@@ -10,8 +10,8 @@ use Rattle.std.proofs.lemmas.Nat.{same_from_place, le-div, mul-le}
 use Rattle.units.specs.declared.volume.Level.{Level}
 use Rattle.units.specs.declared.volume.Level.TheVariants.{One, Five, Ten}
 use Rattle.units.specs.Levels.{data_members, rounded_up, rows_of}
-use Rattle.array_model.specs.Placement.{Shape, Placement, placement_of}
-use Rattle.raid_map.specs.Layouts.{SlotPair, others, parity_slot, stripe_slots, stripe_rows, rows_on, stripe, stripes, placement_at_level, sector_placement, has_copy, IsPlacedIn, IsLaidOut, LiesAt}
+use Rattle.array_model.specs.Placement.{Shape, Placement, SlotPair, others, parity_slot, stripe_slots, stripe_rows, rows_on, stripe, stripes, item_of_stripes, placement_by, placement_of}
+use Rattle.raid_map.specs.Layouts.{sector_placement, has_copy, IsPlacedIn, IsLaidOut, LiesAt}
 use Rattle.raid_map.proofs.Items.{item_of, length_joined, range_at, kept_at, kept_once, length_others}
 
 abbrev two : ℕ → ℕ → SlotPair
@@ -88,58 +88,7 @@ item_lies level n strip count s lies is =
     number : (rows pairs k t rest d at : ℕ) → t ≡ k → rest ≡ d * rows + at → k * (pairs * rows) + rest ≡ (t * pairs + d) * rows + at
     number rows pairs k t rest d at same inner = rw (same, inner) (regrouped k d pairs rows at)
 
--- SECTORS
-
--- a placement of a volume is an item of its stripes, of a sector below its size
-record IsItem (shape : Shape) (level : Level) (s : ℕ) (lies : Placement) : Type 0 where
-  below : s < shape.size
-  item : slice_get (stripes level shape.members shape.strip (s + 1)) s ≡ Some lies
-
-is_item : (shape : Shape) (level : Level) (s : ℕ) (lies : Placement) → placement_at_level (Some level) shape s ≡ Some lies → IsItem shape level s lies
-is_item shape level s lies is = at (nat_lt s shape.size) refl is
-  where
-    at : (b : Bool) → nat_lt s shape.size ≡ b → (if b then slice_get (stripes level shape.members shape.strip (s + 1)) s else None) ≡ Some lies → IsItem shape level s lies
-    at true lt is = record { below = grind (arith, nat_tests, lt); item = is }
-    at false ge is = absurd (none-some lies is)
-
--- the level of a volume that has a placement
-leveled : (shape : Shape) (s : ℕ) (lies : Placement) → sector_placement shape s ≡ Some lies → (level : Level) × (shape.level ≡ Some level) × IsItem shape level s lies
-leveled shape s lies is = at shape.level refl is
-  where
-    at : (o : Option Level) → shape.level ≡ o → placement_at_level o shape s ≡ Some lies → (level : Level) × (shape.level ≡ Some level) × IsItem shape level s lies
-    at None none is = absurd (none-some lies is)
-    at (Some level) some is = (level, some, is_item shape level s lies is)
-
-pub lies_at : (shape : Shape) (level : Level) (s : ℕ) (lies : Placement) → shape.level ≡ Some level → sector_placement shape s ≡ Some lies → LiesAt level shape.members shape.strip s lies
-lies_at shape level s lies some is =
-    let placed : placement_at_level (Some level) shape s ≡ Some lies = sym (ap (λ o. placement_at_level o shape s) some) ∙ is in
-    item_lies level shape.members shape.strip (s + 1) s lies (is_item shape level s lies placed).item
-
-enough : (s pairs rows : ℕ) → 1 ≤ pairs → 1 ≤ rows → s < (s + 1) * (pairs * rows)
-enough s pairs rows some_pair some_row =
-    let one : 1 * 1 ≤ pairs * rows = mul-le 1 1 pairs rows some_pair some_row in
-    let more : (s + 1) * 1 ≤ (s + 1) * (pairs * rows) = mul-le-mul_left (s + 1) one in
-    omega (arith, more)
-
-pub placed_below : (shape : Shape) (level : Level) (s : ℕ) → IsLaidOut shape level → s < shape.size → (lies : Placement) × (sector_placement shape s ≡ Some lies)
-placed_below shape level s laid below =
-    let long : s < length (stripes level shape.members shape.strip (s + 1)) =
-    subst (λ z. s < z) (sym (length_stripes level shape.members shape.strip (s + 1))) (enough s (data_members level shape.members) (stripe_rows level shape.strip) laid.data_slots laid.rows) in
-    let none : Placement = record { main = 0; other = 0; row = 0 } in (
-      get_or (stripes level shape.members shape.strip (s + 1)) s none,
-      ap (λ o. placement_at_level o shape s) laid.is
-          ∙ ap (λ b. if b then slice_get (stripes level shape.members shape.strip (s + 1)) s else None) (lt-ltb s shape.size below)
-          ∙ slice_get-get_or (stripes level shape.members shape.strip (s + 1)) s none long,
-    )
-
-pub none_past : (shape : Shape) (s : ℕ) → shape.size ≤ s → sector_placement shape s ≡ None
-none_past shape s past = at shape.level
-  where
-    at : (o : Option Level) → placement_at_level o shape s ≡ None
-    at None = refl
-    at (Some level) = rw (le-ltb s shape.size past) refl
-
--- ONE SECTOR A ROW
+-- ITEMS
 
 -- the slots of a pair
 parts : (lies : Placement) (m o : ℕ) → Some (two m o) ≡ Some (two lies.main lies.other) → (lies.main ≡ m) × (lies.other ≡ o)
@@ -149,6 +98,96 @@ parts lies m o is =
 
 same_placement : (lies : Placement) (m o r : ℕ) → lies.main ≡ m → lies.other ≡ o → lies.row ≡ r → lies ≡ record { main = m; other = o; row = r }
 same_placement lies m o r main other row = rw (← main, ← other, ← row) refl
+
+enough : (s pairs rows : ℕ) → 1 ≤ pairs → 1 ≤ rows → s < (s + 1) * (pairs * rows)
+enough s pairs rows some_pair some_row =
+    let one : 1 * 1 ≤ pairs * rows = mul-le 1 1 pairs rows some_pair some_row in
+    let more : (s + 1) * 1 ≤ (s + 1) * (pairs * rows) = mul-le-mul_left (s + 1) one in
+    omega (arith, more)
+
+item_below : (shape : Shape) (level : Level) (s : ℕ) → 1 ≤ data_members level shape.members → 1 ≤ stripe_rows level shape.strip → s < shape.size → (lies : Placement) × (item_of_stripes level shape s ≡ Some lies)
+item_below shape level s some_pair some_row below =
+    let long : s < length (stripes level shape.members shape.strip (s + 1)) =
+    subst (λ z. s < z) (sym (length_stripes level shape.members shape.strip (s + 1))) (enough s (data_members level shape.members) (stripe_rows level shape.strip) some_pair some_row) in
+    let none : Placement = record { main = 0; other = 0; row = 0 } in (
+      get_or (stripes level shape.members shape.strip (s + 1)) s none,
+      ap (λ b. if b then slice_get (stripes level shape.members shape.strip (s + 1)) s else None) (lt-ltb s shape.size below)
+          ∙ slice_get-get_or (stripes level shape.members shape.strip (s + 1)) s none long,
+    )
+
+-- an item of a volume is one of its stripes, of a sector below its size
+record IsItem (shape : Shape) (level : Level) (s : ℕ) (lies : Placement) : Type 0 where
+  below : s < shape.size
+  item : slice_get (stripes level shape.members shape.strip (s + 1)) s ≡ Some lies
+
+is_item : (shape : Shape) (level : Level) (s : ℕ) (lies : Placement) → item_of_stripes level shape s ≡ Some lies → IsItem shape level s lies
+is_item shape level s lies is = at (nat_lt s shape.size) refl is
+  where
+    at : (b : Bool) → nat_lt s shape.size ≡ b → (if b then slice_get (stripes level shape.members shape.strip (s + 1)) s else None) ≡ Some lies → IsItem shape level s lies
+    at true lt is = record { below = grind (arith, nat_tests, lt); item = is }
+    at false ge is = absurd (none-some lies is)
+
+-- TWO COPIES
+
+pub mirror_is : (n strip s : ℕ) (lies : Placement) → LiesAt One n strip s lies → lies ≡ record { main = 0; other = 1; row = s }
+mirror_is n strip s lies at = by at.on_pair at.slots (omega (arith, at.row, at.row_below, at.sector, at.pair_below))
+  where
+    by : (d : ℕ) → slice_get (stripe_slots One n at.in_stripe) d ≡ Some (two lies.main lies.other) → lies.row ≡ s → lies ≡ record { main = 0; other = 1; row = s }
+    by zero slots row = let pair = parts lies 0 1 slots in same_placement lies 0 1 s pair.0 pair.1 row
+    by (suc d) slots row = absurd (none-some _ slots)
+
+-- item s of two copies is in the row of its number
+pub copies_are_items : (shape : Shape) (s : ℕ) → s < shape.size → item_of_stripes One shape s ≡ Some (record { main = 0; other = 1; row = s })
+copies_are_items shape s below =
+    let item = item_below shape One s (omega arith) (omega arith) below in
+    item.1 ∙ ap Some (mirror_is shape.members shape.strip s item.0 (item_lies One shape.members shape.strip (s + 1) s item.0 (is_item shape One s item.0 item.1).item))
+
+mirror_item : (shape : Shape) (s : ℕ) → placement_by (Some One) shape s ≡ item_of_stripes One shape s
+mirror_item shape s = elim (cases_lt s shape.size) [
+  | inl below ↦
+      let here : placement_by (Some One) shape s ≡ Some (record { main = 0; other = 1; row = s }) = rw (lt-ltb s shape.size below) refl in
+      here ∙ sym (copies_are_items shape s below)
+  | inr past ↦ rw (le-ltb s shape.size past) refl
+]
+
+-- SECTORS
+
+listed : (level : Level) (shape : Shape) (s : ℕ) → placement_by (Some level) shape s ≡ item_of_stripes level shape s
+listed One shape s = mirror_item shape s
+listed Five shape s = refl
+listed Ten shape s = refl
+
+-- each sector is an item of its volume's stripes
+pub items_are_placed : (shape : Shape) (level : Level) (s : ℕ) → shape.level ≡ Some level → placement_of shape s ≡ item_of_stripes level shape s
+items_are_placed shape level s some = ap (λ o. placement_by o shape s) some ∙ listed level shape s
+
+-- the level of a volume that has a placement
+leveled : (shape : Shape) (s : ℕ) (lies : Placement) → sector_placement shape s ≡ Some lies → (level : Level) × (shape.level ≡ Some level) × IsItem shape level s lies
+leveled shape s lies is = at shape.level refl is
+  where
+    at : (o : Option Level) → shape.level ≡ o → placement_by o shape s ≡ Some lies → (level : Level) × (shape.level ≡ Some level) × IsItem shape level s lies
+    at None none is = absurd (none-some lies is)
+    at (Some level) some is = (level, some, is_item shape level s lies (sym (listed level shape s) ∙ is))
+
+pub lies_at : (shape : Shape) (level : Level) (s : ℕ) (lies : Placement) → shape.level ≡ Some level → sector_placement shape s ≡ Some lies → LiesAt level shape.members shape.strip s lies
+lies_at shape level s lies some is =
+    item_lies level shape.members shape.strip (s + 1) s lies (is_item shape level s lies (sym (items_are_placed shape level s some) ∙ is)).item
+
+pub placed_below : (shape : Shape) (level : Level) (s : ℕ) → IsLaidOut shape level → s < shape.size → (lies : Placement) × (sector_placement shape s ≡ Some lies)
+placed_below shape level s laid below =
+    let item = item_below shape level s laid.data_slots laid.rows below in
+    (item.0, items_are_placed shape level s laid.is ∙ item.1)
+
+pub none_past : (shape : Shape) (s : ℕ) → shape.size ≤ s → sector_placement shape s ≡ None
+none_past shape s past = at shape.level
+  where
+    at : (o : Option Level) → placement_by o shape s ≡ None
+    at None = refl
+    at (Some One) = rw (le-ltb s shape.size past) refl
+    at (Some Five) = rw (le-ltb s shape.size past) refl
+    at (Some Ten) = rw (le-ltb s shape.size past) refl
+
+-- ONE SECTOR A ROW
 
 main_at : (slots : List ℕ) (c d m o : ℕ) → slice_get (map (λ k. two k c) slots) d ≡ Some (two m o) → slice_get slots d ≡ Some m
 main_at [] c d m o is = absurd (none-some _ is)
@@ -271,26 +310,6 @@ pub placed_at : (shape : Shape) (level : Level) (s : ℕ) (lies : Placement) →
 placed_at shape level s lies laid below at =
     let placed = placed_below shape level s laid below in
     placed.1 ∙ ap Some (one_placement level shape.members shape.strip s placed.0 lies (lies_at shape level s placed.0 laid.is placed.1) at)
-
--- TWO COPIES
-
-pub mirror_is : (n strip s : ℕ) (lies : Placement) → LiesAt One n strip s lies → lies ≡ record { main = 0; other = 1; row = s }
-mirror_is n strip s lies at = by at.on_pair at.slots (omega (arith, at.row, at.row_below, at.sector, at.pair_below))
-  where
-    by : (d : ℕ) → slice_get (stripe_slots One n at.in_stripe) d ≡ Some (two lies.main lies.other) → lies.row ≡ s → lies ≡ record { main = 0; other = 1; row = s }
-    by zero slots row = let pair = parts lies 0 1 slots in same_placement lies 0 1 s pair.0 pair.1 row
-    by (suc d) slots row = absurd (none-some _ slots)
-
-pub placed_alike : (shape : Shape) (s : ℕ) → shape.level ≡ Some One → sector_placement shape s ≡ placement_of shape s
-placed_alike shape s one = elim (cases_lt s shape.size) [
-  | inl below ↦
-      let placed = placed_below shape One s (record { is = one; data_slots = omega arith; rows = omega arith }) below in
-      let theirs : placement_of shape s ≡ Some (record { main = 0; other = 1; row = s }) = rw (one, lt-ltb s shape.size below) refl in
-      placed.1 ∙ ap Some (mirror_is shape.members shape.strip s placed.0 (lies_at shape One s placed.0 one placed.1)) ∙ sym theirs
-  | inr past ↦
-      let theirs : placement_of shape s ≡ None = rw (one, le-ltb s shape.size past) refl in
-      none_past shape s past ∙ sym theirs
-]
 
 -- THE SLOTS OF A PLACEMENT
 

@@ -1,19 +1,18 @@
-//! Where the sectors of a volume lie on its members, at levels one, five and ten, as definitions: one list of slots and
-//! rows, of which sector `s` is item `s`.
+//! Where the sectors of a volume lie on its members, at levels one, five and ten: what follows of `array_model`'s one
+//! list of slots and rows, of which sector `s` is item `s`, and what stands in a row of a slot.
 //!
 //! It owes that the list has a placement for each sector of a volume and for no other, that no row of a slot holds two
 //! sectors, that the rows are below those which a volume takes, and what numbers a division gives. It has no code:
 //! each function has an empty body and is proved.
 //!
-//! `sound_images` says by it what stands where. The laws of a run place sectors of mirrors alone, by `array_model`;
-//! the two agree there.
+//! `sound_images` says by it what stands where, and the laws of a run place sectors by the same list.
 #![tactic(auto)]
 
 ghost use Rattle.std.specs.Prelude.{◌≡◌, ℕ, ◌<◌, ◌≤◌, Some, None};
 ghost use Rattle.units.specs.declared.volume.Level.{Level};
 ghost use Rattle.units.specs.declared.volume.Level.TheVariants.{One, Five, Ten};
 ghost use Rattle.units.specs.Levels.{rows_of};
-ghost use Rattle.array_model.specs.Placement.{Shape, Placement, placement_of};
+ghost use Rattle.array_model.specs.Placement.{Shape, Placement, item_of_stripes, placement_of};
 ghost use Rattle.raid_map.specs.Layouts.{IsLaidOut, LiesAt, IsPlacedIn, sector_placement};
 ghost use Rattle.raid_map.specs.Small.{small_shape};
 
@@ -49,9 +48,13 @@ pub fn rows_hold_the_volume()
         → sector_placement shape s ≡ Some lies → lies.row < shape.rows }
 {}
 
-/// Of two copies a sector is placed as the laws of a run place it: in the row of its number.
-pub fn mirrors_are_placed_alike()
-    ensures { (shape : Shape) (s : ℕ) → shape.level ≡ Some One → sector_placement shape s ≡ placement_of shape s }
+/// Each sector is an item of its volume's stripes: also of two copies, where the laws of a run place it in the row of
+/// its number, without the list.
+pub fn sectors_are_items()
+    ensures items { (shape : Shape) (level : Level) (s : ℕ) → shape.level ≡ Some level
+        → placement_of shape s ≡ item_of_stripes level shape s }
+    ensures copies { (shape : Shape) (s : ℕ) → s < shape.size
+        → item_of_stripes One shape s ≡ Some (record { main = 0; other = 1; row = s }) }
 {}
 
 /// At level five over three members with a strip of 8, sector 20 is row 12 of slot 0 with its parity on slot 1, and

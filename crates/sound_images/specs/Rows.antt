@@ -8,8 +8,8 @@ use Rattle.units.specs.declared.volume.Level.{Level}
 use Rattle.units.specs.declared.volume.Level.TheVariants.{One, Five, Ten}
 use Rattle.array_model.specs.AnswerLaw.{xor_onto}
 use Rattle.array_model.specs.Blocks.{Laid, Words}
-use Rattle.array_model.specs.Placement.{Placement}
-use Rattle.raid_map.specs.Layouts.{SlotPair, others, mirror_pair}
+use Rattle.array_model.specs.Placement.{Placement, SlotPair, others}
+use Rattle.raid_map.specs.Layouts.{mirror_pair}
 use Rattle.sound_images.specs.Images.{Image}
 use Rattle.sound_images.specs.Volumes.{slot_at}
 
