@@ -68,6 +68,19 @@ abbrev pub HasItsFault : List Entry → ℕ → Call → Type 0
 HasItsFault journal before call =
     call.went ≡ false → before + 1 < last_stamp journal → has_fault_by call.disk (before + 1) journal ≡ true
 
+-- the journal has a fault of the disk that is stamped n
+abbrev pub has_fault_at : ℕ → ℕ → List Entry → Bool
+has_fault_at d n journal = list_any (λ e. is_fault d e.event && (e.stamp == n)) journal
+
+-- a failed call has its fault right behind it, also the last one of the log: stamped by how many calls were made by then
+abbrev pub HasItsFaultAtOnce : List Entry → ℕ → Call → Type 0
+HasItsFaultAtOnce journal before call = call.went ≡ false → has_fault_at call.disk (before + 1) journal ≡ true
+
+-- Each failed call of a run that outlives failures is told so. Of a run that ends at its first failed call the law below
+-- asks less, since there that call has no entry behind it.
+abbrev pub TellsEachFailure : List Call → List Entry → Type 0
+TellsEachFailure log journal = EachCall (λ before call. HasItsFaultAtOnce journal before call) log
+
 -- THE END OF A RUN
 
 abbrev pub AllWent : List Call → Type 0

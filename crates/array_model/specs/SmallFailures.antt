@@ -47,6 +47,23 @@ faulty_journal = at 0 (Fault second_disk) ∷ at 0 (Begin 2) ∷ at 2 (End 2) �
 abbrev pub forgetful_journal : List Entry
 forgetful_journal = at 0 (Begin 2) ∷ at 2 (End 2) ∷ []
 
+-- a failed call that the journal ends at, without a word of it
+abbrev pub untold_log : List Call
+untold_log = puts 0 4094 (block 2 0 0) ∷ fails (syncs 0) ∷ []
+
+abbrev pub untold_journal : List Entry
+untold_journal = at 0 (Begin 2) ∷ []
+
+-- its fault comes right behind it; one call later; of the other disk
+abbrev pub told_journal : List Entry
+told_journal = at 0 (Begin 2) ∷ at 2 (Fault first_disk) ∷ []
+
+abbrev pub late_journal : List Entry
+late_journal = at 0 (Begin 2) ∷ at 3 (Fault first_disk) ∷ []
+
+abbrev pub other_journal : List Entry
+other_journal = at 0 (Begin 2) ∷ at 2 (Fault second_disk) ∷ []
+
 -- A SPARE: its block has the generation alone, and no volume
 
 abbrev pub spare_block : ℕ → Sector
