@@ -7,7 +7,7 @@ use Rattle.std.proofs.lemmas.Bool.{and_parts}
 use Rattle.array_model.specs.declared.journal.Entry.{Entry}
 use Rattle.array_model.specs.Blocks.{Laid, SlotWords}
 use Rattle.array_model.specs.Rounds.{is_lost}
-use Rattle.array_model.specs.FailureLaw.{KeepsMembers}
+use Rattle.array_model.specs.FailureLaw.{KeepsMembers, does_count_out}
 use Rattle.array_model.specs.Small.{small_start, small_disks, is_either, small_expects, small_slot, small_slots}
 
 -- expected, or lost by a fault
@@ -36,20 +36,21 @@ stays front m first second serial h = elim (either serial h) [
   | inr b ↦ subst (λ s. Stays front m s) (sym b) second
 ]
 
-abbrev After : List Entry → Laid → ℕ → ℕ → SlotWords → Type 0
-After front m v slot before =
-    ((after : SlotWords) × (slice_get (small_slots m v) slot ≡ Some after) × (after.is_in_sync ≡ true)) ⊎ (is_lost small_disks before.serial front ≡ true)
+abbrev After : List Entry → Laid → Laid → ℕ → ℕ → SlotWords → Type 0
+After front last m v slot before =
+    ((after : SlotWords) × (slice_get (small_slots m v) slot ≡ Some after) × (after.is_in_sync ≡ true))
+    ⊎ (is_lost small_disks before.serial front ≡ true) ⊎ ((last ≡ small_start.newest) × (does_count_out small_start before.serial ≡ true))
 
 slot_stays : (front : List Entry) (m last : Laid) → Stays front m (65 ∷ []) → Stays front m (66 ∷ []) → (slot : ℕ) (before : SlotWords)
-    → slice_get (small_slots last 0) slot ≡ Some before → After front m 0 slot before
+    → slice_get (small_slots last 0) slot ≡ Some before → After front last m 0 slot before
 slot_stays front m last (inl e) second zero before h = inl (small_slot m 0 (65 ∷ []), refl, e)
 slot_stays front m last (inr lost) second zero before h =
     let is : small_slot last 0 (65 ∷ []) ≡ before = cc h in
-    inr (subst (λ (s : SlotWords). is_lost small_disks s.serial front ≡ true) is lost)
+    inr (inl (subst (λ (s : SlotWords). is_lost small_disks s.serial front ≡ true) is lost))
 slot_stays front m last first (inl e) (suc zero) before h = inl (small_slot m 1 (66 ∷ []), refl, e)
 slot_stays front m last first (inr lost) (suc zero) before h =
     let is : small_slot last 1 (66 ∷ []) ≡ before = cc h in
-    inr (subst (λ (s : SlotWords). is_lost small_disks s.serial front ≡ true) is lost)
+    inr (inl (subst (λ (s : SlotWords). is_lost small_disks s.serial front ≡ true) is lost))
 slot_stays front m last first second (suc (suc k)) before h = absurd cc
 
 pub keeps_small : (front : List Entry) (last m : Laid) → Stays front m (65 ∷ []) → Stays front m (66 ∷ []) → KeepsMembers small_start front last m
@@ -58,5 +59,5 @@ keeps_small front last m first second = record {
   in_sync = λ v slot before there h sync.
       let zero_is : 0 ≡ v = grind (arith, nat_tests, there) in
       let moved = subst (λ w. slice_get (small_slots last w) slot ≡ Some before) (sym zero_is) h in
-      subst (λ w. After front m w slot before) zero_is (slot_stays front m last first second slot before moved);
+      subst (λ w. After front last m w slot before) zero_is (slot_stays front m last first second slot before moved);
 }

@@ -3,6 +3,7 @@
 -- waits until the metadata records the failure and "-blocked" is written); the rest is this project's own.
 use Rattle.std.specs.Prelude.{◌≡◌, ℕ, ◌+◌, ◌*◌, ◌/◌, ◌<◌, ◌≤◌, ◌==◌, ◌&&◌, nat_le, Bool, true, false, List, [], ◌∷◌, ◌++◌, length, take, slice_get, Option, Some, None, IsSome, if◌then◌else◌, ⊤, ◌⊎◌}
 use Rattle.std.specs.List.{AllByRecursion, list_any}
+use Rattle.std.specs.Str.{bytes_eq}
 use Rattle.device_log.specs.Log.{Call, Read}
 use Rattle.array_model.specs.declared.script.Op.{Op}
 use Rattle.array_model.specs.declared.journal.Entry.{Entry}
@@ -104,8 +105,13 @@ EndsAtFailure log journal (Some d) = FailsLast d log journal
 
 -- WHAT A ROUND KEEPS
 
--- what the last finished round's block (before the first, the newest at opening) says of a disk, the round's says too,
--- unless the disk has a fault
+-- the opening's verdict counts the disk of this serial out
+abbrev pub does_count_out : Start → List ℕ → Bool
+does_count_out start serial = list_any (λ s. bytes_eq s serial) start.counts_out
+
+-- What the last finished round's block (before the first, the newest at opening) says of a disk, the round's says too,
+-- unless the disk has a fault. The first rounds, which stand on the newest at opening, also leave out of sync what the
+-- verdict counts out.
 pub record KeepsMembers (start : Start) (front : List Entry) (last m : Laid) : Type 0 where
   pub expected : (serial : List ℕ) → start.words.expects last serial ≡ true
       → (start.words.expects m serial ≡ true) ⊎ (is_lost start.disks serial front ≡ true)
@@ -113,6 +119,7 @@ pub record KeepsMembers (start : Start) (front : List Entry) (last m : Laid) : T
       → slice_get (start.words.slots last v) slot ≡ Some before → before.is_in_sync ≡ true
       → ((after : SlotWords) × (slice_get (start.words.slots m v) slot ≡ Some after) × (after.is_in_sync ≡ true))
       ⊎ (is_lost start.disks before.serial front ≡ true)
+      ⊎ ((last ≡ start.newest) × (does_count_out start before.serial ≡ true))
 
 abbrev pub BeginKeeps : Start → List Call → List Entry → ℕ → Event → Type 0
 BeginKeeps start log front stamp (Begin g) =

@@ -86,6 +86,7 @@ small_start = record {
   is_started = λ v. v == 0;
   pass_from = λ v. None;
   is_spare = λ d. false;
+  counts_out = [];
   content = λ v s. zeros;
   unsure = λ v s. false;
 }

@@ -102,6 +102,17 @@ rebuilding_start = record small_start { words = record small_words { slots = reb
 abbrev pub rebuilding_log : List Call
 rebuilding_log = puts 0 4094 (with_fourth 2 66) ∷ syncs 0 ∷ []
 
+-- the verdict counts the second disk out
+abbrev pub counting_start : Start
+counting_start = record rebuilding_start { counts_out = (66 ∷ []) ∷ [] }
+
+-- a first round that leaves its slot in sync, and a second that doesn't
+abbrev pub belated_log : List Call
+belated_log = puts 0 4094 (with_fourth 2 0) ∷ syncs 0 ∷ puts 0 4094 (with_fourth 3 66) ∷ syncs 0 ∷ []
+
+abbrev pub belated_journal : List Entry
+belated_journal = at 0 (Begin 2) ∷ at 2 (End 2) ∷ at 2 (Begin 3) ∷ at 4 (End 3) ∷ []
+
 -- A PASS over 2,048 rows: the fourth byte of a block is the unit that is recorded
 
 abbrev pub passing_words : Words

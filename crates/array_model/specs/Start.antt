@@ -20,7 +20,8 @@ disks_of serials sizes opening = record {
 }
 
 -- how blocks are read, the disks, and the opening: the newest block, the volumes that were started, the row that a
--- volume's pass starts at, the disks that are spares, and each volume's content with the sectors that were unsure
+-- volume's pass starts at, the disks that are spares, the serials of those that the verdict counts out (they are read in
+-- no slot from the first round on), and each volume's content with the sectors that were unsure
 pub record Start : Type 0 where
   pub words : Words
   pub disks : Disks
@@ -28,5 +29,6 @@ pub record Start : Type 0 where
   pub is_started : ℕ → Bool
   pub pass_from : ℕ → Option ℕ
   pub is_spare : ℕ → Bool
+  pub counts_out : List (List ℕ)
   pub content : ℕ → ℕ → Sector
   pub unsure : ℕ → ℕ → Bool

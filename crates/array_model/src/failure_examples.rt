@@ -9,7 +9,7 @@ ghost use Rattle.array_model.specs.Form.{IsJournal};
 ghost use Rattle.array_model.specs.FailureLaw.{FailureLaw, TellsEachFailure};
 ghost use Rattle.array_model.specs.AnswerLaw.{AnswerLaw};
 ghost use Rattle.array_model.specs.Small.{small_start, write_and_read, failing_log, failing_journal, syncs, gets};
-ghost use Rattle.array_model.specs.SmallFailures.{nothing_asked, degraded_start, dropping_log, rebuilding_start, rebuilding_log, faulty_journal, forgetful_journal, untold_log, untold_journal, told_journal, late_journal, other_journal, sparing_start, sparing_log, spares_log, parity_hasty, passing_from, passing_log, passing_journal, pass_journal, point_journal, early_point_journal, uneven_point_journal, same_point_journal, whole_script, answered, spare_start, one_fault, two_faults, third_fault, parity_start, long_block, long_writes, long_candidates, long_mark, whole_block_log, failed_rest_log, anchor_log, parted_log, synced_between_log};
+ghost use Rattle.array_model.specs.SmallFailures.{nothing_asked, degraded_start, dropping_log, rebuilding_start, rebuilding_log, faulty_journal, forgetful_journal, counting_start, belated_log, belated_journal, untold_log, untold_journal, told_journal, late_journal, other_journal, sparing_start, sparing_log, spares_log, parity_hasty, passing_from, passing_log, passing_journal, pass_journal, point_journal, early_point_journal, uneven_point_journal, same_point_journal, whole_script, answered, spare_start, one_fault, two_faults, third_fault, parity_start, long_block, long_writes, long_candidates, long_mark, whole_block_log, failed_rest_log, anchor_log, parted_log, synced_between_log};
 
 /// A round whose block calls a disk failed meets the failure law where the disk has a fault. Where it hasn't, the round
 /// forgets a member. Where its block has a slot out of sync on a healthy disk, it forgets the slot.
@@ -17,6 +17,13 @@ pub fn example_of_a_round_that_keeps()
     ensures meets { FailureLaw small_start [] dropping_log faulty_journal }
     ensures member { FailureLaw small_start [] dropping_log forgetful_journal → ⊥ }
     ensures slot { FailureLaw rebuilding_start [] rebuilding_log forgetful_journal → ⊥ }
+{}
+
+/// A first round whose block has the slot of a disk out of sync that the opening counts out meets the failure law. A
+/// later one forgets the slot.
+pub fn example_of_a_disk_that_counts_out()
+    ensures meets { FailureLaw counting_start [] rebuilding_log forgetful_journal }
+    ensures belated { FailureLaw counting_start [] belated_log belated_journal → ⊥ }
 {}
 
 /// Each failed call is told where its fault comes right behind it, also where it is the last one. It isn't where the

@@ -51,6 +51,7 @@ plan_setting p = record {
     is_started = λ v. false;
     pass_from = λ v. None;
     is_spare = λ d. false;
+    counts_out = [];
     content = λ v s. no_sector;
     unsure = λ v s. false;
   };

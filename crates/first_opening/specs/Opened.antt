@@ -68,6 +68,7 @@ setting_of o asked content unsure = record {
     is_started = λ v. v == 0;
     pass_from = λ v. None;
     is_spare = λ d. false;
+    counts_out = [];
     content = content;
     unsure = unsure;
   };

@@ -53,6 +53,7 @@ setting_of g = record {
     is_started = λ v. false;
     pass_from = λ v. None;
     is_spare = λ d. false;
+    counts_out = [];
     content = λ v s. no_sector;
     unsure = λ v s. false;
   };

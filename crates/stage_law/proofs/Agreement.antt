@@ -32,6 +32,7 @@ module _ (T : Setting) (h : Laid → ℕ → Shape) (disks : Disks) (is_started 
       is_started = is_started;
       pass_from = pass_from;
       is_spare = is_spare;
+      counts_out = [];
       content = content;
       unsure = unsure;
     };

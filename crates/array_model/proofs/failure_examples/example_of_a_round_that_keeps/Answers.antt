@@ -37,5 +37,6 @@ returns-clause-slot c law =
           let sync : false ≡ true = subst (λ (words : SlotWords). words.is_in_sync ≡ true) (sym same) after.2 in
           cc sync
           )
-      | inr lost ↦ (let none : false ≡ true = lost in cc none)
+      | inr (inl lost) ↦ (let none : false ≡ true = lost in cc none)
+      | inr (inr out) ↦ (let none : false ≡ true = out.1 in cc none)
     ]
