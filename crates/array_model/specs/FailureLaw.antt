@@ -10,7 +10,7 @@ use Rattle.array_model.specs.declared.journal.Entry.{Entry}
 use Rattle.array_model.specs.declared.journal.Event.{Event}
 use Rattle.array_model.specs.declared.journal.Event.TheVariants.{Begin, Pass, Ack, Applied, Fault, Kill, Takeover}
 use Rattle.array_model.specs.Script.{VolumeWrite, write_at, kind_at, names_sector}
-use Rattle.array_model.specs.Events.{AtEach, has, is_submit, is_done, is_fault, is_faulty, last_stamp}
+use Rattle.array_model.specs.Events.{AtEach, is_done, is_fault, is_faulty, last_stamp}
 use Rattle.array_model.specs.Moments.{IsMoment, AllBelow, EachCall}
 use Rattle.array_model.specs.Placement.{Placement, placement_of}
 use Rattle.array_model.specs.Blocks.{Laid, SlotWords}
@@ -30,32 +30,31 @@ abbrev pub InPlacement : Start → Laid → ℕ → ℕ → Option Placement →
 InPlacement start m v d None = ⊥
 InPlacement start m v d (Some place) = HasInSlot start m v place.main d ⊎ HasInSlot start m v place.other d
 
--- at some moment between the submit of op i and its ack the last finished round had disk d in a slot that the write
--- goes to
-pub record WasMeant (start : Start) (log : List Call) (front : List Entry) (i : ℕ) (target : VolumeWrite)
-    (d : ℕ) : Type 0 where
+-- A write is meant for disk d, where the block of some round that finished by then (or the newest at opening) has d in a
+-- slot that the write goes to. An activation gives a slot to another disk, so that which round it is tells whose slot it
+-- was; where no slot changes its disk, each round names the same.
+pub record WasMeant (start : Start) (log : List Call) (front : List Entry) (target : VolumeWrite) (d : ℕ) : Type 0 where
   pub calls : ℕ
   pub early : List Entry
   pub late : List Entry
   pub block : Laid
   pub moment : IsMoment log front calls early late
-  pub submitted : has (is_submit i) early ≡ true
   pub finished : IsFinished start (take calls log) early block
   pub slot : InPlacement start block target.volume d (placement_of (start.words.shape block target.volume) target.sector)
 
 -- each such disk that has a fault is durably called failed on every working member
-abbrev pub IsRecorded : Start → List Call → List Entry → ℕ → VolumeWrite → Type 0
-IsRecorded start log front i target =
-    (d : ℕ) → WasMeant start log front i target d → is_faulty d front ≡ true
+abbrev pub IsRecorded : Start → List Call → List Entry → VolumeWrite → Type 0
+IsRecorded start log front target =
+    (d : ℕ) → WasMeant start log front target d → is_faulty d front ≡ true
     → DurableOnWorking start log front (λ m. start.words.expects m (start.disks.serial d) ≡ false)
 
-abbrev pub IsRecordedFor : Start → List Call → List Entry → ℕ → Option VolumeWrite → Type 0
-IsRecordedFor start log front i None = ⊤
-IsRecordedFor start log front i (Some target) = IsRecorded start log front i target
+abbrev pub IsRecordedFor : Start → List Call → List Entry → Option VolumeWrite → Type 0
+IsRecordedFor start log front None = ⊤
+IsRecordedFor start log front (Some target) = IsRecorded start log front target
 
 abbrev pub AckOverFaults : Start → List Op → List Call → List Entry → Event → Type 0
 AckOverFaults start ops calls front (Ack i answer) =
-    is_done answer ≡ true → IsRecordedFor start calls front i (write_at ops i)
+    is_done answer ≡ true → IsRecordedFor start calls front (write_at ops i)
 AckOverFaults start ops calls front _ = ⊤
 
 -- FAILED CALLS

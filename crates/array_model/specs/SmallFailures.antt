@@ -216,6 +216,29 @@ parity_start dirty = record small_start {
 abbrev pub parity_hasty : List Entry
 parity_hasty = at 0 (Submit 0) ∷ at 0 (Fault first_disk) ∷ at 0 (Ack 0 Done) ∷ []
 
+-- AN ACTIVATION: where the fourth byte of a block is 67, the second slot is the third disk's
+
+abbrev pub activated_slot : Laid → SlotWords
+activated_slot m = if bytes_at 3 m == 67 then third_slot else small_slot m 1 (66 ∷ [])
+
+abbrev pub activating_slots : Laid → ℕ → List SlotWords
+activating_slots m v = if v == 0 then small_slot m 0 (65 ∷ []) ∷ activated_slot m ∷ [] else []
+
+abbrev pub activating_start : Start
+activating_start = record small_start {
+  words = record small_words { slots = activating_slots; is_whole = λ serial n m. true };
+  disks = three_disks 4096;
+}
+
+-- the second disk has a fault, a round gives its slot to the third, and then a write is submitted and done: over a block
+-- that calls the second failed, or one that goes on to expect it
+abbrev pub activating_log : (failed : ℕ) → List Call
+activating_log failed = puts 0 4094 (record { 0 = 2 ∷ 0 ∷ failed ∷ 67 ∷ [] }) ∷ syncs 0 ∷ []
+
+abbrev pub activating_journal : List Entry
+activating_journal =
+    at 0 (Fault second_disk) ∷ at 0 (Begin 2) ∷ at 2 (End 2) ∷ at 2 (Submit 0) ∷ at 2 (Ack 0 Done) ∷ []
+
 -- BLOCKS OF TWO SECTORS: the fourth byte of an anchor is how many extended sectors belong to it
 
 abbrev pub long_words : Words

@@ -1,15 +1,16 @@
 //! For what the laws say of failed disks, passes, spares and blocks of several sectors a short trace that meets it, and
 //! ones that don't. They are proved, not run.
-ghost use Rattle.std.specs.Prelude.{◌≡◌, [], ◌∷◌, ◌++◌, Some, None};
+ghost use Rattle.std.specs.Prelude.{◌≡◌, [], ◌∷◌, ◌++◌, take, Some, None};
 ghost use Rattle.array_model.specs.declared.journal.Answer.TheVariants.{Done, NoSpare};
 ghost use Rattle.array_model.specs.declared.journal.Event.TheVariants.{Begin};
+ghost use Rattle.array_model.specs.Events.{AtEach};
 ghost use Rattle.array_model.specs.Broken.{IsBroken};
 ghost use Rattle.array_model.specs.Rounds.{HasFinished, BeginsContainer};
 ghost use Rattle.array_model.specs.Form.{IsJournal};
-ghost use Rattle.array_model.specs.FailureLaw.{FailureLaw, TellsEachFailure};
+ghost use Rattle.array_model.specs.FailureLaw.{FailureLaw, AckOverFaults, TellsEachFailure};
 ghost use Rattle.array_model.specs.AnswerLaw.{AnswerLaw};
 ghost use Rattle.array_model.specs.Small.{small_start, write_and_read, failing_log, failing_journal, syncs, gets};
-ghost use Rattle.array_model.specs.SmallFailures.{nothing_asked, degraded_start, dropping_log, rebuilding_start, rebuilding_log, faulty_journal, forgetful_journal, counting_start, belated_log, belated_journal, untold_log, untold_journal, told_journal, late_journal, other_journal, sparing_start, sparing_log, spares_log, parity_hasty, passing_from, passing_log, passing_journal, pass_journal, point_journal, early_point_journal, uneven_point_journal, same_point_journal, whole_script, answered, spare_start, one_fault, two_faults, third_fault, parity_start, long_block, long_writes, long_candidates, long_mark, whole_block_log, failed_rest_log, anchor_log, parted_log, synced_between_log};
+ghost use Rattle.array_model.specs.SmallFailures.{nothing_asked, degraded_start, dropping_log, rebuilding_start, rebuilding_log, faulty_journal, forgetful_journal, activating_start, activating_log, activating_journal, counting_start, belated_log, belated_journal, untold_log, untold_journal, told_journal, late_journal, other_journal, sparing_start, sparing_log, spares_log, parity_hasty, passing_from, passing_log, passing_journal, pass_journal, point_journal, early_point_journal, uneven_point_journal, same_point_journal, whole_script, answered, spare_start, one_fault, two_faults, third_fault, parity_start, long_block, long_writes, long_candidates, long_mark, whole_block_log, failed_rest_log, anchor_log, parted_log, synced_between_log};
 
 /// A round whose block calls a disk failed meets the failure law where the disk has a fault. Where it hasn't, the round
 /// forgets a member. Where its block has a slot out of sync on a healthy disk, it forgets the slot.
@@ -17,6 +18,15 @@ pub fn example_of_a_round_that_keeps()
     ensures meets { FailureLaw small_start [] dropping_log faulty_journal }
     ensures member { FailureLaw small_start [] dropping_log forgetful_journal → ⊥ }
     ensures slot { FailureLaw rebuilding_start [] rebuilding_log forgetful_journal → ⊥ }
+{}
+
+/// A write is done on a mirror whose second slot an activation gave to a spare before its submit, while the disk that had
+/// the slot has a fault. Where the round's block calls that disk failed, no failure is passed over. Where it goes on to
+/// expect it, one is, though no slot names the disk since the submit.
+pub fn example_of_an_activation()
+    ensures meets { AtEach (λ front e. AckOverFaults activating_start write_and_read
+        (take e.stamp (activating_log 66)) front e.event) activating_journal }
+    ensures expected { FailureLaw activating_start write_and_read (activating_log 0) activating_journal → ⊥ }
 {}
 
 /// A first round whose block has the slot of a disk out of sync that the opening counts out meets the failure law. A

@@ -21,9 +21,9 @@ pub use examples::{
 };
 pub use failure_examples::{
     example_of_a_checkpoint, example_of_a_disk_that_counts_out, example_of_a_parity_write,
-    example_of_a_round_that_keeps, example_of_a_spare, example_of_blocks_of_two_sectors,
-    example_of_broken_volumes, example_of_no_spare, example_of_passes_and_points,
-    example_of_reads_in_sync, example_of_whole,
+    example_of_a_round_that_keeps, example_of_a_spare, example_of_an_activation,
+    example_of_blocks_of_two_sectors, example_of_broken_volumes, example_of_no_spare,
+    example_of_passes_and_points, example_of_reads_in_sync, example_of_whole,
 };
 pub use journal::{Answer, DeclinedKind, Entry, Event, Journal, JournalFault};
 pub use script::{Ask, Op, OpKind, Script, Turn};

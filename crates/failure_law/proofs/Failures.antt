@@ -31,7 +31,7 @@ each_ours P holds front (e ∷ es) ours more =
 acks_over : (S : Setting) (log : List Call) (front : List Entry) (e : Event) → AreOurs front → AckOverFaults S.start S.asked.ops log front e
 acks_over S log front (Ack i answer) ours = λ done. at (write_at S.asked.ops i)
   where
-    at : (target : Option VolumeWrite) → IsRecordedFor S.start log front i target
+    at : (target : Option VolumeWrite) → IsRecordedFor S.start log front target
     at None = tt
     at (Some target) = λ d meant faulty. absurd (let sound = none_faulty d front ours in cc (sound, faulty))
 acks_over S log front _ ours = tt

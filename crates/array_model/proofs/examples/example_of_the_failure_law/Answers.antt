@@ -102,13 +102,12 @@ pub returns-clause-hasty : goal.returns-clause-hasty
 returns-clause-hasty c law =
     let second : Laid = record { anchor = block 2 0 0; extended = [] } in
     let third : Laid = record { anchor = block 3 1 0; extended = [] } in
-    let meant : WasMeant small_start (take 11 failing_log) (take 10 hasty_journal) 0 (record { volume = 0; sector = 5; value = sector_of the_value }) 1 = record {
+    let meant : WasMeant small_start (take 11 failing_log) (take 10 hasty_journal) (record { volume = 0; sector = 5; value = sector_of the_value }) 1 = record {
       calls = 4;
       early = take 4 hasty_journal;
       late = drop 4 (take 10 hasty_journal);
       block = second;
       moment = record { parts = refl; calls = omega arith; none_above = search rules; all_below = search rules };
-      submitted = refl;
       finished = (0, refl, record { disk = 1; written = inl refl; generation = refl; container = refl });
       slot = inr (record { words = small_slot second 1 (66 ∷ []); there = refl; same = refl });
     } in
