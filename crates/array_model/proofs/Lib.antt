@@ -5,3 +5,4 @@ pub mod SmallKeeps
 pub mod SmallVolumes
 pub mod Journals
 pub mod Steps
+pub mod Alike

@@ -1,7 +1,7 @@
 -- A metadata block as it lies on a disk, and the words of it that the laws use. The laws take any words; what they
 -- mean on the bytes of a block stands in Meaning. Source: imsm_super and what it holds, of super-intel.c; which words
 -- the laws ask for is this project's own.
-use Rattle.std.specs.Prelude.{ℕ, ◌==◌, ◌&&◌, Bool, true, false, List, [], ◌∷◌, length, Option, Some, None, if◌then◌else◌}
+use Rattle.std.specs.Prelude.{◌≡◌, ℕ, ◌==◌, ◌&&◌, Bool, true, false, List, [], ◌∷◌, length, Option, Some, None, if◌then◌else◌}
 use Rattle.std.specs.Str.{bytes_eq}
 use Rattle.units.specs.declared.disk.Sector.{Sector}
 use Rattle.array_model.specs.Placement.{Shape}
@@ -69,3 +69,23 @@ abbrev pub block_of : Words → List Sector → Sector → Option Laid
 block_of W before anchor =
     if W.extra anchor == 0 then Some (record { anchor = anchor; extended = [] })
     else (if length before == W.extra anchor then Some (record { anchor = anchor; extended = before }) else None)
+
+-- ALIKE
+
+-- Two blocks say the same: of their generation, their family and their volumes, of each disk by its serial, and of each
+-- volume. Their bytes may differ behind the block's end; whether there is room isn't compared.
+pub record SaysAlike (W : Words) (a b : Laid) : Type 0 where
+  pub generation : W.generation a.anchor ≡ W.generation b.anchor
+  pub family : W.family a ≡ W.family b
+  pub volumes : W.volumes a ≡ W.volumes b
+  pub has_record : (serial : List ℕ) → W.has_record a serial ≡ W.has_record b serial
+  pub expects : (serial : List ℕ) → W.expects a serial ≡ W.expects b serial
+  pub is_supported : (v : ℕ) → W.is_supported a v ≡ W.is_supported b v
+  pub is_dirty : (v : ℕ) → W.is_dirty a v ≡ W.is_dirty b v
+  pub is_unfinished : (v : ℕ) → W.is_unfinished a v ≡ W.is_unfinished b v
+  pub can_run : (v : ℕ) → W.can_run a v ≡ W.can_run b v
+  pub pass : (v : ℕ) → W.pass a v ≡ W.pass b v
+  pub unit : (v : ℕ) → W.unit a v ≡ W.unit b v
+  pub pass_start : (v : ℕ) → W.pass_start a v ≡ W.pass_start b v
+  pub shape : (v : ℕ) → W.shape a v ≡ W.shape b v
+  pub slots : (v : ℕ) → W.slots a v ≡ W.slots b v

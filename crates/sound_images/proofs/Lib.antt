@@ -3,3 +3,4 @@ pub mod Serials
 pub mod Checks
 pub mod Meaning
 pub mod Stopped
+pub mod Alike
