@@ -1,0 +1,14 @@
+pub mod RoundPaths
+pub mod Tests
+pub mod EditPaths
+pub mod Along
+pub mod UpdatePaths
+pub mod SubmitPaths
+pub mod ClientPaths
+pub mod MonitorPaths
+pub mod ManagerPaths
+pub mod TakeoverPaths
+pub mod SyncPaths
+pub mod OtherPaths
+pub mod TurnPath
+pub mod JobsFit

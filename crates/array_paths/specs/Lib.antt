@@ -1,0 +1,10 @@
+pub mod InTurn
+pub mod MayEdit
+pub mod ClientMove
+pub mod PassMove
+pub mod Comes
+pub mod AtRows
+pub mod Effects
+pub mod Ready
+pub mod Honest
+pub mod Follows
