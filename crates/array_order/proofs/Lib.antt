@@ -1,0 +1,4 @@
+pub mod Steps
+pub mod ClientOrder
+pub mod UpdateOrder
+pub mod Runs

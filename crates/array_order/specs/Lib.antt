@@ -1,0 +1,4 @@
+pub mod ClientSteps
+pub mod ClientOrder
+pub mod UpdateOrder
+pub mod SmallUpdates
