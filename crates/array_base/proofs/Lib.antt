@@ -19,3 +19,4 @@ pub mod Runs
 pub mod ToyEdits
 pub mod ToyOpens
 pub mod Facts
+pub mod Finished

@@ -142,7 +142,7 @@ module _ (S : Setting) (P : Premises S) (volumes : List Volume) (spares : List �
   -- VOLUMES
 
   -- no client has a job yet
-  no_jobs : (f : ℕ → Client) → ((k : ℕ) → (f k).job ≡ NoJob) → (ks : List ℕ) (k : ℕ)
+  pub no_jobs : (f : ℕ → Client) → ((k : ℕ) → (f k).job ≡ NoJob) → (ks : List ℕ) (k : ℕ)
       → (client_at (map f ks) k).job ≡ NoJob
   no_jobs f none [] k = refl
   no_jobs f none (j ∷ js) zero = none j

@@ -20,7 +20,7 @@ use Rattle.array_paths.specs.Ready.{JobsFit}
 use Rattle.array_paths.proofs.ClientPaths.{job_kept}
 
 -- what stands in a list that was set at one place is new, or stood there
-set_cases : (clients : List Client) (k j : ℕ) (x : Client)
+pub set_cases : (clients : List Client) (k j : ℕ) (x : Client)
     → (client_at (slice_set clients k x) j ≡ x) ⊎ (client_at (slice_set clients k x) j ≡ client_at clients j)
 set_cases [] k j x = inr refl
 set_cases (y ∷ ys) zero zero x = inl refl
@@ -29,7 +29,7 @@ set_cases (y ∷ ys) (suc k) zero x = inr refl
 set_cases (y ∷ ys) (suc k) (suc j) x = set_cases ys k j x
 
 -- a failure leaves each job its operation
-same_op : (S : Setting) (d : ℕ) (volumes : List Volume) (job : Job) (i : ℕ) (r : Row)
+pub same_op : (S : Setting) (d : ℕ) (volumes : List Volume) (job : Job) (i : ℕ) (r : Row)
     → job_without S d volumes job ≡ Busy i r → (old : Row) × (job ≡ Busy i old)
 same_op S d volumes NoJob i r is = absurd cc
 same_op S d volumes (Submitted j) i r is = absurd cc

@@ -43,7 +43,7 @@ abbrev state_at : List Volume → ℕ → State
 state_at volumes v = (volume_at volumes v).state
 
 -- a disk's failure writes to no array state
-state_without : (S : Setting) (d : ℕ) (r : Round) (n : ℕ) (volumes : List Volume) (v : ℕ)
+pub state_without : (S : Setting) (d : ℕ) (r : Round) (n : ℕ) (volumes : List Volume) (v : ℕ)
     → (volume_at (volumes_without S d r n volumes) v).state ≡ (volume_at volumes v).state
 state_without S d r n [] v = refl
 state_without S d r n (x ∷ xs) zero = at (x.started && has_disk d x.slots)
@@ -54,7 +54,7 @@ state_without S d r n (x ∷ xs) zero = at (x.started && has_disk d x.slots)
 state_without S d r n (x ∷ xs) (suc v) = state_without S d r (n + 1) xs v
 
 -- a volume that is set in the list, or another one
-set_at : (volumes : List Volume) (w : ℕ) (x : Volume) (v : ℕ)
+pub set_at : (volumes : List Volume) (w : ℕ) (x : Volume) (v : ℕ)
     → ((w ≡ v) × (volume_at (slice_set volumes w x) v ≡ x)) ⊎
     (volume_at (slice_set volumes w x) v ≡ volume_at volumes v)
 set_at [] w x v = inr refl
@@ -74,7 +74,7 @@ set_state_at volumes w state v = elim (set_at volumes w (record (volume_at volum
   | inr there ↦ inr (ap (λ (x : Volume). x.state) there)
 ]
 
-state_with_pass : (volumes : List Volume) (w : ℕ) (slots : List Slot) (moved : Option Pass) (v : ℕ)
+pub state_with_pass : (volumes : List Volume) (w : ℕ) (slots : List Slot) (moved : Option Pass) (v : ℕ)
     → (volume_at (set_pass volumes w slots moved) v).state ≡ (volume_at volumes v).state
 state_with_pass volumes w slots moved v =
     elim (set_at volumes w (record (volume_at volumes w) { slots = slots; pass = moved }) v) [

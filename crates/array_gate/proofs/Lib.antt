@@ -1,0 +1,4 @@
+pub mod Dirty
+pub mod Writers
+pub mod Entries
+pub mod Gate
