@@ -151,11 +151,12 @@ out_of_slot s d expected in_sync = record {
 }
 
 fills_slot : (f : Facts) (d expected in_sync : ℕ)
-    → FillsSlot f (slot_of d expected in_sync) (slot_of d expected (bit (f.works (serial_of d) || says_yes in_sync)))
+    → FillsSlot f (slot_of d expected in_sync)
+    (slot_of d expected (bit ((f.works (serial_of d) && says_yes expected) || says_yes in_sync)))
 fills_slot f d expected in_sync = record {
   serial = refl;
   expected = refl;
-  in_sync = bit_is (f.works (serial_of d) || says_yes in_sync);
+  in_sync = bit_is ((f.works (serial_of d) && says_yes expected) || says_yes in_sync);
 }
 
 pub slots_mean : (f : Facts) (m : Laid) (e : Edit) (v : ℕ) → IsApt toy m e → (v == 0) ≡ true
@@ -167,8 +168,8 @@ slots_mean f m (CountsOut s) v apt started =
 slots_mean f m (ClosesPass u) v apt started =
     let x = said m in
     let same : (u == v) ≡ true = grind (arith, nat_tests, apt, started) in
-    let first = bit (f.works (serial_of 0) || says_yes x.first_sync) in
-    let second = bit (f.works (serial_of 1) || says_yes x.second_sync) in
+    let first = bit ((f.works (serial_of 0) && says_yes x.first) || says_yes x.first_sync) in
+    let second = bit ((f.works (serial_of 1) && says_yes x.second) || says_yes x.second_sync) in
     subst (λ b. FillsIf b f (slot_of 0 x.first x.first_sync) (slot_of 0 x.first first)
     × (FillsIf b f (slot_of 1 x.second x.second_sync) (slot_of 1 x.second second) × ⊤))
     (sym same) (fills_slot f 0 x.first x.first_sync, (fills_slot f 1 x.second x.second_sync, tt))

@@ -137,8 +137,8 @@ changed f x (MakesDirty v) = record x { dirty = 1 }
 changed f x (MakesClean v) = record x { dirty = 0 }
 changed f x (RecordsUnit v u) = x
 changed f x (ClosesPass v) = record x {
-  first_sync = bit (f.works (serial_of 0) || says_yes x.first_sync);
-  second_sync = bit (f.works (serial_of 1) || says_yes x.second_sync);
+  first_sync = bit ((f.works (serial_of 0) && says_yes x.first) || says_yes x.first_sync);
+  second_sync = bit ((f.works (serial_of 1) && says_yes x.second) || says_yes x.second_sync);
 }
 changed f x (StartsVolume v) = x
 changed f x (ActivatesDisk s i) = record x { third = also_of s 2 x.third }

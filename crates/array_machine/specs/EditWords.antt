@@ -44,11 +44,11 @@ pub record OutOfSlot (s : List ℕ) (w x : SlotWords) : Type 0 where
   pub expected : x.is_expected ≡ w.is_expected
   pub in_sync : x.is_in_sync ≡ (not (bytes_eq s w.serial) && w.is_in_sync)
 
--- behind a pass that closes each slot of a disk that works is in sync
+-- behind a pass that closes each slot of a disk that works is in sync, where its record is expected
 pub record FillsSlot (f : Facts) (w x : SlotWords) : Type 0 where
   pub serial : x.serial ≡ w.serial
   pub expected : x.is_expected ≡ w.is_expected
-  pub in_sync : x.is_in_sync ≡ (f.works w.serial || w.is_in_sync)
+  pub in_sync : x.is_in_sync ≡ ((f.works w.serial && w.is_expected) || w.is_in_sync)
 
 -- a slot of a failed index is given to a spare, which isn't in sync
 pub record TakesSlot (s : List ℕ) (i : ℕ) (w x : SlotWords) : Type 0 where
