@@ -1,0 +1,4 @@
+pub mod AnswerKinds
+pub mod Links
+pub mod Follow
+pub mod Failures
