@@ -59,6 +59,17 @@ created x = record {
 abbrev pub mirror : ℕ → Small
 mirror size = created (shape One 2 128 size 0)
 
+-- two copies of eight sectors on the second and the third of three disks
+abbrev pub mirror_behind : Small
+mirror_behind = record (created (shape One 2 128 8 0)) {
+  block = record {
+    generation = 1;
+    records = expected_record 1 ∷ expected_record 2 ∷ [];
+    volumes = created_volume 2 ∷ [];
+  };
+  disks = 3;
+}
+
 -- so many members with strips of so many sectors, one of each row for parity
 abbrev pub parity : (members strip size : ℕ) → Small
 parity members strip size = created (shape Five members strip size 0)

@@ -14,7 +14,7 @@ use Rattle.array_machine.specs.Machine.{Actor, Monitor, Client, Fail, Kill, Take
 use Rattle.array_rows.specs.SmallBlocks.{SmallBlock, lay, size_of, read_block}
 use Rattle.array_rows.specs.SmallSettings.{Small}
 use Rattle.array_rows.specs.Runs.{Bounds, left_by}
-use Rattle.array_rows.specs.Containers.{mirror, parity, two_mirrors}
+use Rattle.array_rows.specs.Containers.{mirror, mirror_behind, parity, two_mirrors}
 
 -- OPERATIONS, AND LINES OF A JOURNAL
 
@@ -77,6 +77,10 @@ second_written = with_ops (writes 0 1 0 ∷ []) two_mirrors
 -- a mirror and a blank disk, which is to become a spare; a client waits until the volume is whole
 abbrev pub asking_for_spare : ℕ → Small
 asking_for_spare size = with_ops (waits 0 0 ∷ []) (with_asks (Add 2 ∷ []) (with_disk (mirror size)))
+
+-- the same where the blank disk is the first: the members are the second and the third
+abbrev pub asking_for_first : Small
+asking_for_first = with_ops (waits 0 0 ∷ []) (with_asks (Add 0 ∷ []) mirror_behind)
 
 -- TURNS
 

@@ -25,7 +25,9 @@ pub use passes::{
     a_checkpoint_is_recorded, a_dirty_stop_resyncs_from_row_0,
     an_unfinished_volume_that_loses_a_disk,
 };
-pub use spares::{a_spare_is_rebuilt, an_activation_is_cut_off};
+pub use spares::{
+    a_spare_is_rebuilt, an_activated_spare_is_written_last, an_activation_is_cut_off,
+};
 pub use takeovers::{a_begun_generation_is_not_used_again, a_torn_block_is_no_metadata};
 pub use two_volumes::{
     a_stop_behind_an_extended_sector, a_volume_that_is_not_known, a_write_to_each_volume,
