@@ -1,0 +1,26 @@
+mod BlockWords
+pub mod Laid
+pub mod Steady
+pub mod Steps
+pub mod Supports
+pub mod Moves
+pub mod Sound
+pub mod Slots
+pub mod Means
+pub mod Marks
+pub mod Entries
+pub mod Closes
+pub mod Starts
+pub mod Disks
+pub mod Wide
+pub mod Lost
+pub mod Spread
+pub mod Fails
+pub mod Added
+pub mod Spares
+pub mod Activates
+pub mod Leaves
+pub mod Meant
+pub mod Stays
+pub mod NewBlocks
+pub mod Given

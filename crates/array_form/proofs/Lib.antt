@@ -1,0 +1,5 @@
+pub mod Counting
+pub mod StateCounts
+pub mod StateEffects
+pub mod RoundEffects
+pub mod Runs

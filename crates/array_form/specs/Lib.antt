@@ -1,0 +1,2 @@
+pub mod StateCounts
+pub mod RoundCounts
