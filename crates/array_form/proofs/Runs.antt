@@ -85,6 +85,7 @@ module _ (S : Setting) where
         let r = (counted w run).rounds in
         record {
           disks =
-              λ d. let both = r.disks d in record { fault = omega (arith, both.fault); unblock = omega (arith, both.unblock) };
+              λ d. let both = r.disks d in record
+              { fault = omega (arith, both.fault); unblock = omega (arith, both.unblock) };
           takeovers = let life = r.life in omega (arith, life);
         }

@@ -7,8 +7,8 @@ ghost use Rattle.array_form.specs.RoundCounts.{KeepsFailureCounts};
 ghost use Rattle.array_form.specs.StateCounts.{KeepsStateCounts};
 
 /// In every run a volume is made ready once at most, waits for its metadata at most as often as writes to it are
-/// submitted, is active at most as often as it waited, falls idle at most as often as writes are submitted, and is called
-/// clean at most as often as it fell idle.
+/// submitted, is active at most as often as it waited, falls idle at most as often as writes are submitted, and is
+/// called clean at most as often as it fell idle.
 pub fn states_keep_their_counts()
     ensures { OfEachWorld (λ S P w. KeepsStateCounts S.asked.ops w.journal) }
 {}
