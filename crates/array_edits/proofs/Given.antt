@@ -10,7 +10,7 @@ use Rattle.imsm_edit.specs.Meanings.{AreFacts}
 use Rattle.array_model.specs.Blocks.{Laid}
 use Rattle.array_model.specs.Start.{Start}
 use Rattle.block_meaning.specs.Reading.{parts_of}
-use Rattle.array_edits.proofs.BlockWords.{reads_blocks}
+use Rattle.block_meaning.proofs.Words.{reads_blocks}
 use Rattle.new_container.specs.declared.container.NewContainer.{NewContainer}
 use Rattle.new_container.specs.declared.disk.NewDisk.{NewDisk}
 use Rattle.new_container.specs.declared.volume.NewVolume.{NewVolume}

@@ -1,4 +1,3 @@
-mod BlockWords
 pub mod Laid
 pub mod Steady
 pub mod Steps

@@ -1,3 +1,4 @@
 pub mod Decided
 pub mod Same
 pub mod Renewal
+pub mod Words
