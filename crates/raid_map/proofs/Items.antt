@@ -1,8 +1,9 @@
 -- The items of lists joined end to end, of ranges, and of ranges with some numbers left out.
-use Rattle.std.proofs.Common.{◌≡◌, ℕ, zero, suc, ◌+◌, ◌*◌, ◌<◌, ◌≤◌, ◌==◌, not, Bool, true, false, cond, List, [], ◌∷◌, ◌++◌, length, filter, flat_map, slice_get, Some, refl, ap, subst, arith, ◌⊎◌, inl, inr, length-append}
+use Rattle.std.proofs.Common.{◌≡◌, ℕ, zero, suc, ◌+◌, ◌*◌, ◌<◌, ◌≤◌, ◌==◌, not, Bool, true, false, cond, List, [], ◌∷◌, ◌++◌, length, filter, flat_map, slice_get, Some, refl, ap, ◌∙◌, subst, arith, ◌⊎◌, inl, inr, length-append}
 use Rattle.std.specs.List.{range_with_len}
 use Rattle.std.proofs.lemmas.Option.{none-some, same_Some}
 use Rattle.std.proofs.lemmas.Bool.Decides.{nat_tests}
+use Rattle.std.proofs.lemmas.Bool.{eqb-false}
 
 -- LISTS JOINED
 
@@ -100,3 +101,50 @@ length_others a (suc n) k le lt = at (a == k) refl (λ above. length_others (a +
         → length (cond (not b) (a ∷ filter (λ x. not (x == k)) (range_with_len (a + 1) n)) (filter (λ x. not (x == k)) (range_with_len (a + 1) n))) + 1 ≡ suc n
     at true is more = let same : a ≡ k = grind (arith, nat_tests, is) in omega (arith, all_kept (a + 1) n k (omega (arith, same)))
     at false is more = let above : a + 1 ≤ k = grind (arith, nat_tests, is) in omega (arith, more above)
+
+-- ALL NUMBERS BUT ONE
+
+range_is : (a n d : ℕ) → d < n → slice_get (range_with_len a n) d ≡ Some (a + d)
+range_is a zero d lt = absurd (omega (arith, lt))
+range_is a (suc n) zero lt = ap Some (omega arith)
+range_is a (suc n) (suc d) lt = range_is (a + 1) n d (omega (arith, lt)) ∙ ap Some (omega arith)
+
+all_at : (a n k d : ℕ) → k < a → d < n → slice_get (filter (λ x. not (x == k)) (range_with_len a n)) d ≡ Some (a + d)
+all_at a zero k d low lt = absurd (omega (arith, lt))
+all_at a (suc n) k zero low lt =
+    let apart : (a == k) ≡ false = grind (arith, nat_tests, low) in
+    rw apart (ap Some (omega arith))
+all_at a (suc n) k (suc d) low lt =
+    let apart : (a == k) ≡ false = grind (arith, nat_tests, low) in
+    rw apart (all_at (a + 1) n k d (omega (arith, low)) (omega (arith, lt)) ∙ ap Some (omega arith))
+
+-- below the number that is left out, and from it on
+pub other_below : (a n k d : ℕ) → a + d < k → k < a + n
+    → slice_get (filter (λ x. not (x == k)) (range_with_len a n)) d ≡ Some (a + d)
+other_below a zero k d low lt = absurd (omega (arith, low, lt))
+other_below a (suc n) k zero low lt =
+    let apart : (a == k) ≡ false = grind (arith, nat_tests, low) in
+    rw apart (ap Some (omega arith))
+other_below a (suc n) k (suc d) low lt =
+    let apart : (a == k) ≡ false = grind (arith, nat_tests, low) in
+    rw apart (other_below (a + 1) n k d (omega (arith, low)) (omega (arith, lt)) ∙ ap Some (omega arith))
+
+pub other_above : (a n k d : ℕ) → a ≤ k → k ≤ a + d → d + 1 < n
+    → slice_get (filter (λ x. not (x == k)) (range_with_len a n)) d ≡ Some (a + d + 1)
+other_above a zero k d le low lt = absurd (omega (arith, lt))
+other_above a (suc n) k d le low lt = at (a == k) refl d low lt
+    (λ e above more less. other_above (a + 1) n k e above more less)
+  where
+    at : (b : Bool) → (a == k) ≡ b → (d : ℕ) → k ≤ a + d → d + 1 < suc n
+        → ((e : ℕ) → a + 1 ≤ k → k ≤ a + 1 + e → e + 1 < n
+        → slice_get (filter (λ x. not (x == k)) (range_with_len (a + 1) n)) e ≡ Some (a + 1 + e + 1))
+        → slice_get (cond (not b) (a ∷ filter (λ x. not (x == k)) (range_with_len (a + 1) n))
+        (filter (λ x. not (x == k)) (range_with_len (a + 1) n))) d ≡ Some (a + d + 1)
+    at true is d low lt more =
+        let same : a ≡ k = grind (arith, nat_tests, is) in
+        all_at (a + 1) n k d (omega (arith, same)) (omega (arith, lt)) ∙ ap Some (omega arith)
+    at false is zero low lt more =
+        absurd (let apart : (a ≡ k) → ⊥ = eqb-false a k is in apart (omega (arith, le, low)))
+    at false is (suc d) low lt more =
+        let above : a + 1 ≤ k = grind (arith, nat_tests, is, le) in
+        more d above (omega (arith, low)) (omega (arith, lt)) ∙ ap Some (omega arith)

@@ -1,2 +1,5 @@
 pub mod Items
 pub mod Stripes
+pub mod Placed
+pub mod Rows
+pub mod Xor

@@ -14,7 +14,7 @@ use Rattle.array_model.specs.Placement.{Shape, Placement, SlotPair, others, pari
 use Rattle.raid_map.specs.Layouts.{sector_placement, has_copy, IsPlacedIn, IsLaidOut, LiesAt}
 use Rattle.raid_map.proofs.Items.{item_of, length_joined, range_at, kept_at, kept_once, length_others}
 
-abbrev two : ℕ → ℕ → SlotPair
+abbrev pub two : ℕ → ℕ → SlotPair
 two m o = record { main = m; other = o }
 
 -- HOW MANY
@@ -91,7 +91,7 @@ item_lies level n strip count s lies is =
 -- ITEMS
 
 -- the slots of a pair
-parts : (lies : Placement) (m o : ℕ) → Some (two m o) ≡ Some (two lies.main lies.other) → (lies.main ≡ m) × (lies.other ≡ o)
+pub parts : (lies : Placement) (m o : ℕ) → Some (two m o) ≡ Some (two lies.main lies.other) → (lies.main ≡ m) × (lies.other ≡ o)
 parts lies m o is =
     let same : two m o ≡ two lies.main lies.other = same_Some _ _ is in
     (sym (ap (λ (p : SlotPair). p.main) same), sym (ap (λ (p : SlotPair). p.other) same))
@@ -189,7 +189,7 @@ none_past shape s past = at shape.level
 
 -- ONE SECTOR A ROW
 
-main_at : (slots : List ℕ) (c d m o : ℕ) → slice_get (map (λ k. two k c) slots) d ≡ Some (two m o) → slice_get slots d ≡ Some m
+pub main_at : (slots : List ℕ) (c d m o : ℕ) → slice_get (map (λ k. two k c) slots) d ≡ Some (two m o) → slice_get slots d ≡ Some m
 main_at [] c d m o is = absurd (none-some _ is)
 main_at (x ∷ slots) c zero m o is = ap Some (ap (λ (p : SlotPair). p.main) (same_Some _ _ is))
 main_at (x ∷ slots) c (suc d) m o is = main_at slots c d m o is
@@ -248,7 +248,7 @@ other_at (x ∷ slots) c zero m o is = sym (ap (λ (p : SlotPair). p.other) (sam
 other_at (x ∷ slots) c (suc d) m o is = other_at slots c d m o is
 
 -- a sector's data isn't on the parity's slot
-off_parity : (n strip s : ℕ) (lies : Placement) (at : LiesAt Five n strip s lies) → lies.main ≡ parity_slot n at.in_stripe → ⊥
+pub off_parity : (n strip s : ℕ) (lies : Placement) (at : LiesAt Five n strip s lies) → lies.main ≡ parity_slot n at.in_stripe → ⊥
 off_parity n strip s lies at same =
     let parity : ℕ = parity_slot n at.in_stripe in
     let kept = kept_at (λ k. not (k == parity)) 0 n at.on_pair lies.main (main_at (others n parity) parity at.on_pair lies.main lies.other at.slots) in

@@ -1,12 +1,17 @@
-//! Where the sectors of a volume lie on its members, at levels one, five and ten: what follows of `array_model`'s one
-//! list of slots and rows, of which sector `s` is item `s`, and what stands in a row of a slot.
+//! Where the sectors of a volume lie on its members, at levels one, five and ten: the place of a sector, the sector of
+//! a place, the sum of sectors that parity is, and what follows of `array_model`'s one list of slots and rows, of which
+//! sector `s` is item `s`.
 //!
-//! It owes that the list has a placement for each sector of a volume and for no other, that no row of a slot holds two
-//! sectors, that the rows are below those which a volume takes, and what numbers a division gives. It has no code:
-//! each function has an empty body and is proved.
+//! It owes that a place is the list's, that a row of a slot holds just the sector that is placed there, and that sums
+//! are taken bit by bit. Of the list it owes that it has a placement for each sector of a volume and for no other, that
+//! no row of a slot holds two sectors, that the rows are below those which a volume takes, and what numbers a division
+//! gives: these functions have an empty body and are proved.
 //!
-//! `sound_images` says by it what stands where, and the laws of a run place sectors by the same list.
+//! `sound_images` says by the list what stands where, and the laws of a run place sectors by it.
 #![tactic(auto)]
+
+mod parity;
+mod places;
 
 ghost use Rattle.std.specs.Prelude.{◌≡◌, ℕ, ◌<◌, ◌≤◌, Some, None};
 ghost use Rattle.units.specs.declared.volume.Level.{Level};
@@ -15,6 +20,9 @@ ghost use Rattle.units.specs.Levels.{rows_of};
 ghost use Rattle.array_model.specs.Placement.{Shape, Placement, item_of_stripes, placement_of};
 ghost use Rattle.raid_map.specs.Layouts.{IsLaidOut, LiesAt, IsPlacedIn, sector_placement};
 ghost use Rattle.raid_map.specs.Small.{small_shape};
+
+pub use parity::xor_into;
+pub use places::{Place, place_of, sector_at};
 
 /// Each sector below the size of a volume has a placement, and no sector past it has one.
 pub fn each_sector_is_placed()
