@@ -11,12 +11,15 @@ use Rattle.array_model.specs.Events.{has, is_end}
 use Rattle.array_model.specs.Moments.{IsMoment}
 use Rattle.array_model.specs.Blocks.{Laid, SlotWords}
 use Rattle.array_model.specs.Rounds.{IsFinished, is_lost}
-use Rattle.array_model.specs.FailureLaw.{HasInSlot}
+use Rattle.array_model.specs.FailureLaw.{HasInSlot, does_count_out}
 use Rattle.array_model.specs.Start.{Start}
 
--- a slot that is in sync, on a disk without a fault
+-- A slot that is in sync, on a disk without a fault. What the verdict counts out doesn't serve until a round has ended;
+-- from then on the blocks say so.
 abbrev pub does_work : Start → List Entry → SlotWords → Bool
-does_work start journal slot = slot.is_in_sync && not (is_lost start.disks slot.serial journal)
+does_work start journal slot =
+    slot.is_in_sync && not (is_lost start.disks slot.serial journal)
+    && (has is_end journal || not (does_count_out start slot.serial))
 
 abbrev pub is_short : Start → List Entry → Laid → ℕ → Bool
 is_short start journal m v =

@@ -30,9 +30,22 @@ abbrev pub InPlacement : Start → Laid → ℕ → ℕ → Option Placement →
 InPlacement start m v d None = ⊥
 InPlacement start m v d (Some place) = HasInSlot start m v place.main d ⊎ HasInSlot start m v place.other d
 
--- A write is meant for disk d, where the block of some round that finished by then (or the newest at opening) has d in a
--- slot that the write goes to. An activation gives a slot to another disk, so that which round it is tells whose slot it
--- was; where no slot changes its disk, each round names the same.
+-- the block has disk d in this slot of a volume, and expects it there
+pub record ExpectsInSlot (start : Start) (m : Laid) (v slot d : ℕ) : Type 0 where
+  pub words : SlotWords
+  pub there : slice_get (start.words.slots m v) slot ≡ Some words
+  pub same : words.serial ≡ start.disks.serial d
+  pub expected : words.is_expected ≡ true
+
+abbrev pub ExpectsAt : Start → Laid → ℕ → ℕ → Option Placement → Type 0
+ExpectsAt start m v d None = ⊥
+ExpectsAt start m v d (Some place) =
+    ExpectsInSlot start m v place.main d ⊎ ExpectsInSlot start m v place.other d
+
+-- A write is meant for disk d, where the block of some round that finished by then (or the newest at opening) expects d
+-- in a slot that the write goes to. An activation gives a slot to another disk, so that which round it is tells whose
+-- slot it was. A disk that a block calls failed gets no write in its slot: it may serve in another one since, and a
+-- fault there is none of this write's.
 pub record WasMeant (start : Start) (log : List Call) (front : List Entry) (target : VolumeWrite) (d : ℕ) : Type 0 where
   pub calls : ℕ
   pub early : List Entry
@@ -40,7 +53,7 @@ pub record WasMeant (start : Start) (log : List Call) (front : List Entry) (targ
   pub block : Laid
   pub moment : IsMoment log front calls early late
   pub finished : IsFinished start (take calls log) early block
-  pub slot : InPlacement start block target.volume d (placement_of (start.words.shape block target.volume) target.sector)
+  pub slot : ExpectsAt start block target.volume d (placement_of (start.words.shape block target.volume) target.sector)
 
 -- each such disk that has a fault is durably called failed on every working member
 abbrev pub IsRecorded : Start → List Call → List Entry → VolumeWrite → Type 0

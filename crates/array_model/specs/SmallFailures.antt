@@ -188,6 +188,13 @@ one_fault = at 0 (Fault first_disk) ∷ []
 abbrev pub two_faults : List Entry
 two_faults = at 0 (Fault first_disk) ∷ at 0 (Fault second_disk) ∷ []
 
+-- a mirror of which the verdict counts the second disk out, and a fault of that disk
+abbrev pub doubted_start : Start
+doubted_start = record small_start { counts_out = (66 ∷ []) ∷ [] }
+
+abbrev pub doubted_fault : List Entry
+doubted_fault = at 0 (Fault second_disk) ∷ []
+
 abbrev pub third_fault : List Entry
 third_fault = at 0 (Fault third_disk) ∷ []
 

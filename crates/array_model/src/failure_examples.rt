@@ -10,7 +10,7 @@ ghost use Rattle.array_model.specs.Form.{IsJournal};
 ghost use Rattle.array_model.specs.FailureLaw.{FailureLaw, AckOverFaults, TellsEachFailure};
 ghost use Rattle.array_model.specs.AnswerLaw.{AnswerLaw};
 ghost use Rattle.array_model.specs.Small.{small_start, write_and_read, failing_log, failing_journal, syncs, gets};
-ghost use Rattle.array_model.specs.SmallFailures.{nothing_asked, degraded_start, dropping_log, rebuilding_start, rebuilding_log, faulty_journal, forgetful_journal, activating_start, activating_log, activating_journal, counting_start, belated_log, belated_journal, untold_log, untold_journal, told_journal, late_journal, other_journal, sparing_start, sparing_log, spares_log, parity_hasty, passing_from, passing_log, passing_journal, pass_journal, point_journal, early_point_journal, uneven_point_journal, same_point_journal, whole_script, answered, spare_start, one_fault, two_faults, third_fault, parity_start, long_block, long_writes, long_candidates, long_mark, whole_block_log, failed_rest_log, anchor_log, parted_log, synced_between_log};
+ghost use Rattle.array_model.specs.SmallFailures.{nothing_asked, degraded_start, dropping_log, rebuilding_start, rebuilding_log, faulty_journal, forgetful_journal, activating_start, activating_log, activating_journal, counting_start, belated_log, belated_journal, untold_log, untold_journal, told_journal, late_journal, other_journal, sparing_start, sparing_log, spares_log, parity_hasty, passing_from, passing_log, passing_journal, pass_journal, point_journal, early_point_journal, uneven_point_journal, same_point_journal, whole_script, answered, spare_start, one_fault, two_faults, doubted_start, doubted_fault, third_fault, parity_start, long_block, long_writes, long_candidates, long_mark, whole_block_log, failed_rest_log, anchor_log, parted_log, synced_between_log};
 
 /// A round whose block calls a disk failed meets the failure law where the disk has a fault. Where it hasn't, the round
 /// forgets a member. Where its block has a slot out of sync on a healthy disk, it forgets the slot.
@@ -102,11 +102,14 @@ pub fn example_of_no_spare()
     ensures sound { AnswerLaw small_start whole_script [] (answered NoSpare) → ⊥ }
 {}
 
-/// A mirror is broken by two faults, and not by one. A parity volume is broken by one fault where it was left dirty,
-/// and not where it was left clean.
+/// A mirror is broken by two faults, and not by one. Where the verdict counts its second disk out, it is broken by a
+/// fault of the first, and not by one of the second. A parity volume is broken by one fault where it was left dirty, and
+/// not where it was left clean.
 pub fn example_of_broken_volumes()
     ensures two { IsBroken small_start [] two_faults 0 }
     ensures one { IsBroken small_start [] one_fault 0 → ⊥ }
+    ensures doubted { IsBroken doubted_start [] one_fault 0 }
+    ensures doubt { IsBroken doubted_start [] doubted_fault 0 → ⊥ }
     ensures torn { IsBroken (parity_start 1) [] third_fault 0 }
     ensures clean { IsBroken (parity_start 0) [] third_fault 0 → ⊥ }
 {}

@@ -109,7 +109,7 @@ returns-clause-hasty c law =
       block = second;
       moment = record { parts = refl; calls = omega arith; none_above = search rules; all_below = search rules };
       finished = (0, refl, record { disk = 1; written = inl refl; generation = refl; container = refl });
-      slot = inr (record { words = small_slot second 1 (66 ∷ []); there = refl; same = refl });
+      slot = inr (record { words = small_slot second 1 (66 ∷ []); there = refl; same = refl; expected = refl });
     } in
     let durable = law.acks.1.1.1.1.1.1.1.1.1.1.0 refl 1 meant refl third (4, refl, record { disk = 0; written = inl refl; generation = refl; container = refl }) 0 (record { expected = refl; sound = refl }) in
     let failed : true ≡ false = durable.each.0 in

@@ -13,7 +13,7 @@ meant = record {
   block = (parity_start 0).newest;
   moment = record { parts = refl; calls = omega arith; none_above = search rules; all_below = search rules };
   finished = refl;
-  slot = inl (record { words = small_slot (parity_start 0).newest 0 (65 ∷ []); there = refl; same = refl });
+  slot = inl (record { words = small_slot (parity_start 0).newest 0 (65 ∷ []); there = refl; same = refl; expected = refl });
 }
 
 pub returns : goal.returns

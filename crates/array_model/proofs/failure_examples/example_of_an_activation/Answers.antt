@@ -50,7 +50,7 @@ meant = record {
   block = activating_start.newest;
   moment = record { parts = refl; calls = omega arith; none_above = tt; all_below = search rules };
   finished = refl;
-  slot = inr (record { words = small_slot activating_start.newest 1 (66 ∷ []); there = refl; same = refl });
+  slot = inr (record { words = small_slot activating_start.newest 1 (66 ∷ []); there = refl; same = refl; expected = refl });
 }
 
 pub returns-clause-expected : goal.returns-clause-expected
