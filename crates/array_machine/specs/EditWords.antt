@@ -1,6 +1,7 @@
 -- What an edit makes of the words of a block: one function a word, which the edits of real blocks are shown to meet.
 -- Source: the updates of super-intel.c; what an edit leaves alone is this project's own.
-use Rattle.std.specs.Prelude.{◌≡◌, ℕ, ◌<◌, ◌==◌, ◌||◌, ◌&&◌, not, nat_lt, Bool, true, false, List, [], ◌∷◌, ⊤, ◌⊎◌}
+use Rattle.std.specs.Prelude.{◌≡◌, ℕ, ◌<◌, ◌==◌, ◌||◌, ◌&&◌, not, nat_lt, Bool, true, false, List, [], ◌∷◌, Option, None, ⊤, ◌⊎◌}
+use Rattle.std.specs.List.{AllByRecursion, AllZip}
 use Rattle.std.specs.Str.{bytes_eq}
 use Rattle.array_model.specs.Blocks.{Laid, SlotWords}
 use Rattle.array_model.specs.Renewal.{FitsGeneration}
@@ -77,6 +78,22 @@ SlotsAfter f e v [] (x ∷ xs) = ⊥
 SlotsAfter f e v (w ∷ ws) [] = ⊥
 SlotsAfter f e v (w ∷ ws) (x ∷ xs) = SlotAfter f e v w x × SlotsAfter f e v ws xs
 
+-- PASSES
+
+-- a slot has nothing to rebuild: it is in sync, or its record isn't expected
+abbrev pub NeedsNoRebuild : SlotWords → Type 0
+NeedsNoRebuild x = (x.is_in_sync ≡ true) ⊎ (x.is_expected ≡ false)
+
+-- Why volume v has no pass open behind an edit, by the pass before it and by its slots before and behind it: it had
+-- none, or the edit closed it. A failure and a start close a pass only where it has nothing to rebuild; a spare takes a
+-- slot of a volume only with a pass.
+abbrev pub HasNoPass : Edit → ℕ → (was : Option ℕ) → (ws xs : List SlotWords) → Type 0
+HasNoPass (FailsDisk s) v was ws xs = (was ≡ None) ⊎ AllByRecursion NeedsNoRebuild xs
+HasNoPass (ClosesPass u) v was ws xs = (was ≡ None) ⊎ ((u == v) ≡ true)
+HasNoPass (StartsVolume u) v was ws xs = ((was ≡ None) × ((u == v) ≡ false)) ⊎ AllByRecursion NeedsNoRebuild xs
+HasNoPass (ActivatesDisk s i) v was ws xs = (was ≡ None) × AllZip KeepsSlot ws xs
+HasNoPass _ v was ws xs = was ≡ None
+
 -- WHAT AN EDIT NEEDS
 
 -- a disk of the bank has the serial
@@ -108,9 +125,12 @@ AreApt S f m (e ∷ es) = IsApt S m e × AreApt S f (S.edit f m e) es
 
 -- WHAT EDITS MEAN
 
--- On blocks of a form that edits keep, each edit that fits does what its name says, and no more.
+-- On blocks of a form that edits keep, each edit that fits does what its name says, and no more; of such a block each
+-- started volume is supported, and stays so.
 pub record EditsMean (S : Setting) : Type 0 where
   pub formed : Laid → Bool
+  pub served : (m : Laid) (v : ℕ) → formed m ≡ true → S.start.is_started v ≡ true
+      → S.start.words.is_supported m v ≡ true
   pub keeps : (f : Facts) (m : Laid) (e : Edit) → IsApt S m e → formed m ≡ true → formed (S.edit f m e) ≡ true
   pub generation : (f : Facts) (m : Laid) (e : Edit) → IsApt S m e → formed m ≡ true
       → S.start.words.generation (S.edit f m e).anchor ≡ generation_after e (S.start.words.generation m.anchor)
@@ -123,5 +143,11 @@ pub record EditsMean (S : Setting) : Type 0 where
       ≡ dirty_after e v (S.start.words.is_unfinished m v) (S.start.words.is_dirty m v)
   pub expects : (f : Facts) (m : Laid) (e : Edit) (serial : List ℕ) → IsApt S m e → formed m ≡ true
       → S.start.words.expects (S.edit f m e) serial ≡ expects_after e serial (S.start.words.expects m serial)
+  pub supported : (f : Facts) (m : Laid) (e : Edit) (v : ℕ) → IsApt S m e → formed m ≡ true
+      → S.start.words.is_supported m v ≡ true → S.start.words.is_supported (S.edit f m e) v ≡ true
   pub slots : (f : Facts) (m : Laid) (e : Edit) (v : ℕ) → IsApt S m e → formed m ≡ true
-      → S.start.is_started v ≡ true → SlotsAfter f e v (S.start.words.slots m v) (S.start.words.slots (S.edit f m e) v)
+      → S.start.words.is_supported m v ≡ true
+      → SlotsAfter f e v (S.start.words.slots m v) (S.start.words.slots (S.edit f m e) v)
+  pub pass : (f : Facts) (m : Laid) (e : Edit) (v : ℕ) → IsApt S m e → formed m ≡ true → S.start.is_started v ≡ true
+      → S.start.words.pass (S.edit f m e) v ≡ None
+      → HasNoPass e v (S.start.words.pass m v) (S.start.words.slots m v) (S.start.words.slots (S.edit f m e) v)

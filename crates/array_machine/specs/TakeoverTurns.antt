@@ -1,8 +1,9 @@
 -- A takeover: after a kill the monitor reads the metadata of the disks that work, and goes on from the newest block
 -- that is found where it was given last. Source: load_container_imsm of super-intel.c, by which mdmon reads what is
 -- there; that a block must be the one given last, and not below the last finished round's, is this project's own.
-use Rattle.std.specs.Prelude.{ℕ, ◌+◌, ◌-◌, nat_le, Bool, true, false, List, [], ◌∷◌, ◌++◌, length, if◌then◌else◌}
+use Rattle.std.specs.Prelude.{ℕ, ◌+◌, ◌-◌, ◌||◌, nat_lt, nat_le, Bool, true, false, List, [], ◌∷◌, ◌++◌, length, if◌then◌else◌}
 use Rattle.units.specs.declared.disk.Sector.{Sector}
+use Rattle.units.specs.declared.bounds.TheConstants.{METADATA_SECTORS}
 use Rattle.units.specs.Places.{anchor_place}
 use Rattle.device_log.specs.Log.{Read}
 use Rattle.array_machine.specs.Setting.{Setting}
@@ -51,10 +52,14 @@ abbrev pub read_place : Setting → ℕ → List Sector → ℕ
 read_place S d [] = anchor_place (S.start.disks.sectors d)
 read_place S d (a ∷ more) = anchor_place (S.start.disks.sectors d) - S.start.words.extra a + length more
 
+-- an anchor to which more sectors belong than are kept for metadata is no block's: behind it nothing is read
+abbrev pub is_too_long : Setting → Sector → Bool
+is_too_long S a = nat_lt METADATA_SECTORS (S.start.words.extra a + 2)
+
 -- the anchor and all sectors that belong to it were read
 abbrev pub has_all : Setting → List Sector → Bool
 has_all S [] = false
-has_all S (a ∷ more) = nat_le (S.start.words.extra a) (length more)
+has_all S (a ∷ more) = is_too_long S a || nat_le (S.start.words.extra a) (length more)
 
 -- what was read is the block that the disk was given last
 abbrev pub is_given : Setting → Round → ℕ → List Sector → Bool
