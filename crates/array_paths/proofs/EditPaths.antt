@@ -1,5 +1,5 @@
 -- The edits that a round makes of the book are those that it may make, and they fit.
-use Rattle.std.proofs.Common.{◌≡◌, ℕ, zero, suc, ◌+◌, ◌<◌, ◌&&◌, nat_lt, Bool, true, false, cond, List, [], ◌∷◌, ◌++◌, filter, map, flat_map, length, refl, arith, Option, Some, None, is_some, inl}
+use Rattle.std.proofs.Common.{◌≡◌, ℕ, zero, suc, ◌+◌, ◌<◌, ◌≤◌, ◌||◌, ◌&&◌, not, nat_lt, Bool, true, false, cond, List, [], ◌∷◌, ◌++◌, filter, map, flat_map, length, refl, ap, sym, ◌∙◌, arith, Option, Some, None, is_some, ◌⊎◌, inl, inr}
 use Rattle.std.specs.List.{AllByRecursion, range_with_len}
 use Rattle.std.specs.Str.{bytes_eq}
 use Rattle.std.proofs.lemmas.Bool.{and_parts, or_left, or_right}
@@ -8,7 +8,7 @@ use Rattle.std.proofs.lemmas.Slice.Eq.{bytes_eq-Decides}
 use Rattle.array_model.specs.Blocks.{Laid}
 use Rattle.array_model.specs.Renewal.{FitsGeneration}
 use Rattle.array_model.proofs.Journals.{all-append, all_map}
-use Rattle.array_machine.specs.Numbers.{has, has_serial}
+use Rattle.array_machine.specs.Numbers.{has, is_empty, has_serial}
 use Rattle.array_machine.specs.Setting.{Setting, Facts, Edit, TakesGeneration, FailsDisk, CountsOut, MakesDirty, MakesClean, RecordsUnit, ClosesPass, StartsVolume, edited}
 use Rattle.array_machine.specs.EditWords.{IsApt, AreApt}
 use Rattle.array_machine.specs.EditFacts.{is_sound, facts_of}
@@ -18,7 +18,7 @@ use Rattle.array_machine.specs.Rounds.{expects}
 use Rattle.array_machine.specs.Control.{Control}
 use Rattle.array_machine.specs.MonitorTurns.{volumes_where, failed_now, edit_if, owes_dirty, owes_clean, has_own_pass, pass_edits, volume_edits, due_edits, is_due, failure_edits, still_fits, first_edits, next_block}
 use Rattle.array_paths.specs.InTurn.{InTurn}
-use Rattle.array_paths.specs.MayEdit.{Runs, MayEdit, IsNext}
+use Rattle.array_paths.specs.MayEdit.{Runs, MayEdit, IsOneOf, round_order, AreInOrder, IsNext}
 use Rattle.array_paths.specs.Ready.{Ready}
 use Rattle.array_paths.proofs.Tests.{pending_is, sound_runs}
 
@@ -63,6 +63,39 @@ own_serials P (s ∷ ss) h = (
   h s (or_left (bytes_eq s s) (has_serial s ss) ((bytes_eq-Decides s s).1 refl)),
   own_serials P ss (λ x is. h x (or_right (bytes_eq s x) (has_serial x ss) is)),
 )
+
+-- a number that passes a test, of n numbers from a on, gives its edit
+one_where : (f : ℕ → Edit) (p : ℕ → Bool) (a n d : ℕ) → a ≤ d → d < a + n → p d ≡ true
+    → IsOneOf (f d) (map f (filter p (range_with_len a n)))
+one_where f p a zero d from below is = absurd (omega (arith, from, below))
+one_where f p a (suc n) d from below is = elim (from_here a d from) [
+  | inl here ↦
+      let passes : p a ≡ true = ap p here ∙ is in rw passes (inl (ap f (sym here)))
+  | inr later ↦ at (p a) (one_where f p (a + 1) n d later (omega (arith, below)) is)
+]
+  where
+    at : (b : Bool) → IsOneOf (f d) (map f (filter p (range_with_len (a + 1) n)))
+        → IsOneOf (f d) (map f (cond b (a ∷ filter p (range_with_len (a + 1) n)) (filter p (range_with_len (a + 1) n))))
+    at true more = inr more
+    at false more = more
+
+    from_here : (a d : ℕ) → a ≤ d → (a ≡ d) ⊎ (a + 1 ≤ d)
+    from_here a d le = grind (arith, le)
+
+-- so that where none passes it doesn't
+none_where : (p : ℕ → Bool) (a n d : ℕ) → a ≤ d → d < a + n → p d ≡ true
+    → is_empty (filter p (range_with_len a n)) ≡ true → ⊥
+none_where p a n d from below is none =
+    at (filter p (range_with_len a n)) none (one_where (λ e. FailsDisk (e ∷ [])) p a n d from below is)
+  where
+    at : (ds : List ℕ) → is_empty ds ≡ true → IsOneOf (FailsDisk (d ∷ [])) (map (λ e. FailsDisk (e ∷ [])) ds) → ⊥
+    at [] none one = one
+    at (e ∷ es) none one = cc none
+
+one_before : (e : Edit) (xs ys : List Edit) → IsOneOf e xs → IsOneOf e (xs ++ ys)
+one_before e [] ys one = absurd one
+one_before e (x ∷ xs) ys (inl here) = inl here
+one_before e (x ∷ xs) ys (inr later) = inr (one_before e xs ys later)
 
 -- EDITS THAT FIT
 
@@ -169,14 +202,7 @@ module _ (S : Setting) (c : Control) (ready : Ready S c) where
       (all_where (λ v. Good S c (StartsVolume v)) (λ v. (volume_at c.volumes v).started) 0 (length c.volumes)
       (λ v has lt. ((is, has), λ m. ready.started v has))))
 
-  -- all edits of a round but the last
-  abbrev front_edits : List Edit
-  front_edits =
-      failure_edits S c.round
-      ++ filter (still_fits S (edited S (facts_of S c) c.round.book (failure_edits S c.round))) (due_edits S c)
-      ++ first_edits S c c.round.first
-
-  front_good : AllByRecursion (Good S c) front_edits
+  front_good : AllByRecursion (Good S c) (round_order S c)
   front_good =
       let failed = failure_edits S c.round in
       let due = filter (still_fits S (edited S (facts_of S c) c.round.book failed)) (due_edits S c) in
@@ -187,10 +213,46 @@ module _ (S : Setting) (c : Control) (ready : Ready S c) where
   -- the block of a round that begins
   pub is_next : (t : InTurn) → FitsGeneration (c.round.note + 1) → is_due S c ≡ true → IsNext S t c (next_block S c)
   is_next t next due = record {
-    edits = front_edits;
-    may = all_map (Good S c) (MayEdit S c) (λ e good. good.0) front_edits front_good;
-    apt = apt_all S (facts_of S c) c.round.book front_edits (c.round.note + 1)
-        (all_map (Good S c) (FitsAll S) (λ e good. good.1) front_edits front_good) next;
+    edits = round_order S c;
+    order = inl refl;
+    may = all_map (Good S c) (MayEdit S c) (λ e good. good.0) (round_order S c) front_good;
+    apt = apt_all S (facts_of S c) c.round.book (round_order S c) (c.round.note + 1)
+        (all_map (Good S c) (FitsAll S) (λ e good. good.1) (round_order S c) front_good) next;
     is = refl;
     asked = inl due;
   }
+
+-- THE FAILURES AMONG THEM
+
+module _ (S : Setting) (c : Control) where
+  -- a round's edits say each failure that the book doesn't say
+  order_failures : (d : ℕ) → d < S.start.disks.count → has d c.round.faults ≡ true
+      → expects S c.round.book d ≡ true → IsOneOf (FailsDisk (S.start.disks.serial d)) (round_order S c)
+  order_failures d below failed is =
+      let edit = FailsDisk (S.start.disks.serial d) in
+      let lost = failure_edits S c.round in
+      let due = filter (still_fits S (edited S (facts_of S c) c.round.book lost)) (due_edits S c) in
+      one_before edit (lost ++ due) (first_edits S c c.round.first)
+      (one_before edit lost due
+      (one_where (λ e. FailsDisk (S.start.disks.serial e)) (λ e. has e c.round.faults && expects S c.round.book e)
+      0 S.start.disks.count d (omega arith) (omega (arith, below)) (rw (failed, is) refl)))
+
+  -- where nothing is due there is no such failure
+  none_failed : (d : ℕ) → d < S.start.disks.count → has d c.round.faults ≡ true
+      → expects S c.round.book d ≡ true → is_due S c ≡ false → ⊥
+  none_failed d below failed is none =
+      none_where (λ e. has e c.round.faults && expects S c.round.book e) 0 S.start.disks.count d
+      (omega arith) (omega (arith, below)) (rw (failed, is) refl)
+      (at c.round.fresh (is_empty (failed_now S c.round)) _ none)
+    where
+      at : (a b c : Bool) → (a || not b || c) ≡ false → b ≡ true
+      at true b c h = absurd cc
+      at false true c h = refl
+      at false false c h = absurd cc
+
+  -- so a block that is begun says each
+  pub failures_among : (edits : List Edit) → AreInOrder S c edits → (d : ℕ) → d < S.start.disks.count
+      → has d c.round.faults ≡ true → expects S c.round.book d ≡ true
+      → IsOneOf (FailsDisk (S.start.disks.serial d)) edits
+  failures_among edits (inl order) d below failed is = rw order (order_failures d below failed is)
+  failures_among edits (inr update) d below failed is = absurd (none_failed d below failed is update.1)

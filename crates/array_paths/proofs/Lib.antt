@@ -12,3 +12,4 @@ pub mod SyncPaths
 pub mod OtherPaths
 pub mod TurnPath
 pub mod JobsFit
+pub mod EndsLast

@@ -127,9 +127,9 @@ module _ (S : Setting) (t : InTurn) (x : Ended) (ready : Ready S t.before)
     deed_path None None None (Some v) target due ris ais uis kis tis dis =
         clean_path v (first_volume may_clean t.before.volumes v kis)
     deed_path None None None None false due ris ais uis kis tis dis =
-        update_path S t x fits alive rests _ refl t.before.manager.queue refl
+        update_path S t x fits alive rests _ refl (λ is. absurd (cc (tis, is))) t.before.manager.queue refl
     deed_path None None None None true false ris ais uis kis tis dis =
-        update_path S t x fits alive rests _ refl t.before.manager.queue refl
+        update_path S t x fits alive rests _ refl (λ is. dis) t.before.manager.queue refl
     deed_path None None None None true true ris ais uis kis tis dis =
         lone S t t.before x _ (begins (next_block S t.before) alive rests tis (is_next S t.before ready t fits dis))
 

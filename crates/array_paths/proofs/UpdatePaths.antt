@@ -18,9 +18,10 @@ use Rattle.array_machine.specs.Control.{Control}
 use Rattle.array_machine.specs.Changes.{Applies, Declines, ManagerMoves}
 use Rattle.array_machine.specs.Puts.{put}
 use Rattle.array_machine.specs.Turns.{may_call}
+use Rattle.array_machine.specs.MonitorTurns.{is_due}
 use Rattle.array_machine.specs.Updates.{Verdict, Refuses, EditsBook, WritesSpare, Refusal, unless, is_free, need_for, activation_refusals, activation_verdict, add_refusals, add_verdict, rename_refusals, rename_verdict, remove_refusals, remove_verdict, ask_verdict, verdict_of, taken, apply_verdict, apply_if}
 use Rattle.array_paths.specs.InTurn.{InTurn}
-use Rattle.array_paths.specs.MayEdit.{MayEdit}
+use Rattle.array_paths.specs.MayEdit.{MayEdit, IsUpdate}
 use Rattle.array_paths.specs.Comes.{MayFail, begins, begins_spare, manages}
 use Rattle.array_paths.specs.Effects.{Path, quiet, ends_here, goes_on}
 use Rattle.array_paths.proofs.Tests.{is_false, may_fail}
@@ -50,7 +51,7 @@ spare_next S c u rest =
 abbrev MayMake : Setting → Control → Update → List Update → Verdict → Type 0
 MayMake S c u rest (Refuses kind) = ⊤
 MayMake S c u rest (EditsBook edits) =
-    AllByRecursion (MayEdit S (edits_next S c u rest)) edits
+    AllByRecursion (MayEdit S (edits_next S c u rest)) edits × IsUpdate edits
     × (FitsGeneration (c.round.note + 1)
     → AreApt S (facts_of S c) c.round.book (edits ++ TakesGeneration (c.round.note + 1) ∷ []))
 MayMake S c u rest (WritesSpare d) =
@@ -84,6 +85,7 @@ module _ (S : Setting) (c : Control) (u : Update) (rest : List Update) where
       let unknown = is_false (S.start.words.has_record c.round.book (S.start.disks.serial d)) both.1 in
       let may = may_fail S c d (and_parts (may_call S c.round d) (has d c.manager.spares) both.0).0 in (
         (record { disk = d; is = refl; below = may.there; free = free; large = large; room = room }, tt),
+        tt,
         (λ fits. ((room, unknown, record { disk = d; is = refl; below = may.there }), (fits, tt))),
       ))
 
@@ -102,7 +104,7 @@ module _ (S : Setting) (c : Control) (u : Update) (rest : List Update) where
       may_unless (rename_refusals S c v name) (EditsBook (NamesVolume v name ∷ []))
       (λ passes.
       let there = not_false (nat_lt v (S.start.words.volumes c.round.book)) passes.0 in
-      ((there, tt), (λ fits. (there, (fits, tt)))))
+      ((there, tt), tt, (λ fits. (there, (fits, tt)))))
 
   may_remove : (d : ℕ) → MayMake S c u rest (remove_verdict S c d)
   may_remove d =
@@ -112,7 +114,7 @@ module _ (S : Setting) (c : Control) (u : Update) (rest : List Update) where
       let there = not_false (nat_lt d S.start.disks.count && known) passes.0 in
       let both = and_parts (nat_lt d S.start.disks.count) known there in
       let failed = passes.1.0 in
-      (((both.1, failed), tt), (λ fits. ((both.1, failed), (fits, tt)))))
+      (((both.1, failed), tt), tt, (λ fits. ((both.1, failed), (fits, tt)))))
 
   may_ask : (ask : Option Ask) → MayMake S c u rest (ask_verdict S c ask)
   may_ask None = tt
@@ -128,7 +130,7 @@ module _ (S : Setting) (c : Control) (u : Update) (rest : List Update) where
 
 module _ (S : Setting) (t : InTurn) (x : Ended) (fits : FitsGeneration (t.before.round.note + 1))
     (alive : t.before.round.life ≡ Lives) (rests : t.before.round.phase ≡ Rest)
-    (target : has_target S t.before.round ≡ true) where
+    (target : has_target S t.before.round ≡ true) (none : is_due S t.before ≡ false) where
   verdict_path : (u : Update) (rest : List Update) → t.before.manager.queue ≡ u ∷ rest → (verdict : Verdict)
       → MayMake S t.before u rest verdict → Path S t t.before None x (apply_verdict S t.before u rest verdict)
   verdict_path u rest queue (Refuses kind) may =
@@ -142,7 +144,14 @@ module _ (S : Setting) (t : InTurn) (x : Ended) (fits : FitsGeneration (t.before
       (record { rests = rests; posted = refl; update = u; first = queue; number = refl })))
       (lone S t (edits_next S t.before u rest) x _
       (begins _ alive rests target
-      (record { edits = edits; may = may.0; apt = may.1 fits; is = refl; asked = inr (u, queue) })))
+      (record {
+        edits = edits;
+        may = may.0;
+        order = inr (may.1, none);
+        apt = may.2 fits;
+        is = refl;
+        asked = inr (u, queue);
+      })))
   verdict_path u rest queue (WritesSpare d) may =
       goes_on
       (quiet x _
@@ -152,12 +161,12 @@ module _ (S : Setting) (t : InTurn) (x : Ended) (fits : FitsGeneration (t.before
       (lone S t (spare_next S t.before u rest) x _
       (begins_spare d _ alive rests target (record { there = may.0.there; sound = may.0.sound }) refl may.1 may.2))
 
--- the update in hand, if a target exists
+-- the update in hand, if a target exists and nothing is due
 pub update_path : (S : Setting) (t : InTurn) (x : Ended) → FitsGeneration (t.before.round.note + 1)
     → t.before.round.life ≡ Lives → t.before.round.phase ≡ Rest → (target : Bool)
-    → has_target S t.before.round ≡ target → (queue : List Update) → t.before.manager.queue ≡ queue
-    → Path S t t.before None x (apply_if S t.before target queue)
-update_path S t x fits alive rests false has queue is = ends_here x
-update_path S t x fits alive rests true has [] is = ends_here x
-update_path S t x fits alive rests true has (u ∷ rest) is =
-    verdict_path S t x fits alive rests has u rest is _ (may_make S t.before u rest u.seen u.want)
+    → has_target S t.before.round ≡ target → (target ≡ true → is_due S t.before ≡ false) → (queue : List Update)
+    → t.before.manager.queue ≡ queue → Path S t t.before None x (apply_if S t.before target queue)
+update_path S t x fits alive rests false has none queue is = ends_here x
+update_path S t x fits alive rests true has none [] is = ends_here x
+update_path S t x fits alive rests true has none (u ∷ rest) is =
+    verdict_path S t x fits alive rests has (none refl) u rest is _ (may_make S t.before u rest u.seen u.want)

@@ -8,3 +8,4 @@ pub mod Effects
 pub mod Ready
 pub mod Honest
 pub mod Follows
+pub mod EndsLast
