@@ -20,3 +20,4 @@ pub mod ToyEdits
 pub mod ToyOpens
 pub mod Facts
 pub mod Finished
+pub mod AlongRest

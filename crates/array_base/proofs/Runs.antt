@@ -31,7 +31,7 @@ module _ (S : Setting) (P : Premises S) where
     pub base : Base S P w.log w.control
     pub ready : Ready S w.control
 
-  over_base : (t : InTurn) (w : World) (call : Option Call) (x : Ended) (a : Change)
+  pub over_base : (t : InTurn) (w : World) (call : Option Call) (x : Ended) (a : Change)
       → FitsGeneration (t.before.round.note + 1) → Effect S t w.control call x a → HasBase w
       → OverBase S P t w call x a
   over_base t w call x a fits effect had = record {
@@ -44,7 +44,7 @@ module _ (S : Setting) (P : Premises S) where
     behind = effect_base S P t w.log w.control effect had.base;
   }
 
-  base_on : (t : InTurn) (w : World) (call : Option Call) (x : Ended) (a : Change) → Effect S t w.control call x a
+  pub base_on : (t : InTurn) (w : World) (call : Option Call) (x : Ended) (a : Change) → Effect S t w.control call x a
       → HasBase w → HasBase (after_effect S w call a)
   base_on t w call x a effect had = record {
     base = effect_base S P t w.log w.control effect had.base;
@@ -52,7 +52,7 @@ module _ (S : Setting) (P : Premises S) where
   }
 
   module _ (volumes : List Volume) (spares : List ℕ) (o : Opening S P volumes spares) where
-    opens_with : HasBase (begins_at S volumes spares)
+    pub opens_with : HasBase (begins_at S volumes spares)
     opens_with = record {
       base = base_at_opening S P volumes spares o;
       ready = ready_at_opening S P volumes spares o;

@@ -1,13 +1,14 @@
 -- The edits of the small setting mean what their names say.
-use Rattle.std.proofs.Common.{◌≡◌, ℕ, zero, suc, ◌<◌, ◌==◌, ◌||◌, ◌&&◌, not, Bool, true, false, List, refl, ap, sym, ◌∙◌, subst, arith, inl, eqb-true}
+use Rattle.std.proofs.Common.{◌≡◌, ℕ, zero, suc, ◌<◌, ◌==◌, ◌||◌, ◌&&◌, not, Bool, true, false, List, refl, ap, sym, ◌∙◌, subst, arith, inl, eqb-true, Option, Some, None, cond, ◌⊎◌, inr}
+use Rattle.std.specs.List.{AllByRecursion}
 use Rattle.std.specs.Prelude.{⊤}
 use Rattle.std.specs.Str.{bytes_eq}
 use Rattle.std.proofs.lemmas.Slice.Eq.{bytes_eq-Decides}
 use Rattle.std.proofs.lemmas.Bool.Decides.{nat_tests}
 use Rattle.array_model.specs.Blocks.{Laid, SlotWords}
 use Rattle.array_machine.specs.Setting.{Facts, Edit, TakesGeneration, FailsDisk, CountsOut, MakesDirty, MakesClean, ClosesPass, StartsVolume, ActivatesDisk}
-use Rattle.array_machine.specs.EditWords.{generation_after, dirty_after, expects_after, KeepsSlot, LosesSlot, OutOfSlot, FillsSlot, FillsIf, SlotsAfter, IsApt, EditsMean}
-use Rattle.array_base.specs.Toy.{Said, said, bit, says_yes, serial_of, is_at, expected_in, recorded_in, slot_of, slots_in, has_none, unless_of, also_of, changed, toy}
+use Rattle.array_machine.specs.EditWords.{generation_after, dirty_after, expects_after, KeepsSlot, LosesSlot, OutOfSlot, FillsSlot, FillsIf, SlotsAfter, IsApt, EditsMean, NeedsNoRebuild, HasNoPass}
+use Rattle.array_base.specs.Toy.{Said, said, bit, says_yes, serial_of, is_at, expected_in, recorded_in, slot_of, slots_in, has_none, unless_of, also_of, changed, toy, is_to_rebuild, pass_in}
 
 -- BITS
 
@@ -134,12 +135,27 @@ dirty_mean f m _ v apt = refl
 keeps_slot : (w : SlotWords) → KeepsSlot w w
 keeps_slot w = record { serial = refl; expected = refl; in_sync = refl }
 
+-- a number that stays 1 unless its disk has the serial, beside another that does or doesn't
+both_less : (e a b : Bool) → (says_yes (bit (not e && a)) && says_yes (bit (not e && b))) ≡ (not e && (a && b))
+both_less true a b = refl
+both_less false a b = rw (bit_is a, bit_is b) refl
+
+one_less : (e a b : Bool) → (says_yes (bit (not e && a)) && b) ≡ (not e && (a && b))
+one_less true a b = refl
+one_less false a b = rw (bit_is a) refl
+
+one_more : (w s e : Bool) → (says_yes (bit ((w && e) || s)) && e) ≡ ((w && e) || (s && e))
+one_more true s true = refl
+one_more true true false = refl
+one_more true false false = refl
+one_more false s e = rw (bit_is s) refl
+
 loses_slot : (s : List ℕ) (d expected in_sync : ℕ)
     → LosesSlot s (slot_of d expected in_sync) (slot_of d (unless_of s d expected) (unless_of s d in_sync))
 loses_slot s d expected in_sync = record {
   serial = refl;
   expected = bit_is (not (bytes_eq s (serial_of d)) && says_yes expected);
-  in_sync = bit_is (not (bytes_eq s (serial_of d)) && says_yes in_sync);
+  in_sync = both_less (bytes_eq s (serial_of d)) (says_yes in_sync) (says_yes expected);
 }
 
 out_of_slot : (s : List ℕ) (d expected in_sync : ℕ)
@@ -147,7 +163,7 @@ out_of_slot : (s : List ℕ) (d expected in_sync : ℕ)
 out_of_slot s d expected in_sync = record {
   serial = refl;
   expected = refl;
-  in_sync = bit_is (not (bytes_eq s (serial_of d)) && says_yes in_sync);
+  in_sync = one_less (bytes_eq s (serial_of d)) (says_yes in_sync) (says_yes expected);
 }
 
 fills_slot : (f : Facts) (d expected in_sync : ℕ)
@@ -156,7 +172,7 @@ fills_slot : (f : Facts) (d expected in_sync : ℕ)
 fills_slot f d expected in_sync = record {
   serial = refl;
   expected = refl;
-  in_sync = bit_is ((f.works (serial_of d) && says_yes expected) || says_yes in_sync);
+  in_sync = one_more (f.works (serial_of d)) (says_yes in_sync) (says_yes expected);
 }
 
 pub slots_mean : (f : Facts) (m : Laid) (e : Edit) (v : ℕ) → IsApt toy m e → (v == 0) ≡ true
@@ -176,6 +192,52 @@ slots_mean f m (ClosesPass u) v apt started =
 slots_mean f m (ActivatesDisk s i) v apt started = (inl (keeps_slot _), (inl (keeps_slot _), tt))
 slots_mean f m _ v apt started = (keeps_slot _, (keeps_slot _, tt))
 
+-- where no pass is open there is nothing to rebuild
+none_of : (e s : Bool) → (e && not s) ≡ false → ((s && e) ≡ true) ⊎ (e ≡ false)
+none_of true true h = inl refl
+none_of true false h = absurd cc
+none_of false s h = inr refl
+
+abbrev rebuild : Option ℕ
+rebuild = Some 1
+
+closed : (a b : Bool) → cond (a || b) rebuild None ≡ None → (a ≡ false) × (b ≡ false)
+closed true b h = absurd cc
+closed false true h = absurd cc
+closed false false h = (refl, refl)
+
+no_rebuild : (x : Said) → pass_in x ≡ None → AllByRecursion NeedsNoRebuild (slots_in x)
+no_rebuild x none =
+    let both = closed (is_to_rebuild x.first x.first_sync) (is_to_rebuild x.second x.second_sync) none in (
+      none_of (says_yes x.first) (says_yes x.first_sync) both.0,
+      (none_of (says_yes x.second) (says_yes x.second_sync) both.1, tt),
+    )
+
+-- what counts out has nothing less to rebuild
+still_none : (e c s : Bool) → (e && not (says_yes (bit (not c && s)))) ≡ false → (e && not s) ≡ false
+still_none false c s h = refl
+still_none true true s h = absurd cc
+still_none true false s h = ap not (sym (bit_is s)) ∙ h
+
+counted_none : (x : Said) (s : List ℕ) (f : Facts) → pass_in (changed f x (CountsOut s)) ≡ None → pass_in x ≡ None
+counted_none x s f none =
+    let first_open = is_to_rebuild x.first (unless_of s 0 x.first_sync) in
+    let second_open = is_to_rebuild x.second (unless_of s 1 x.second_sync) in
+    let both = closed first_open second_open none in
+    let first = still_none (says_yes x.first) (bytes_eq s (serial_of 0)) (says_yes x.first_sync) both.0 in
+    let second = still_none (says_yes x.second) (bytes_eq s (serial_of 1)) (says_yes x.second_sync) both.1 in
+    rw (first, second) refl
+
+pub passes_mean : (f : Facts) (m : Laid) (e : Edit) (v : ℕ) → (v == 0) ≡ true → IsApt toy m e
+    → pass_in (changed f (said m) e) ≡ None
+    → HasNoPass e v (pass_in (said m)) (slots_in (said m)) (slots_in (changed f (said m) e))
+passes_mean f m (FailsDisk s) v started apt none = inr (no_rebuild (changed f (said m) (FailsDisk s)) none)
+passes_mean f m (CountsOut s) v started apt none = counted_none (said m) s f none
+passes_mean f m (ClosesPass u) v started apt none = inr (grind (arith, nat_tests, apt, started))
+passes_mean f m (StartsVolume u) v started apt none = inr (no_rebuild (said m) none)
+passes_mean f m (ActivatesDisk s i) v started apt none = (none, (keeps_slot _, (keeps_slot _, tt)))
+passes_mean f m _ v started apt none = none
+
 -- the generation, and whose block it is
 pub generation_mean : (f : Facts) (m : Laid) (e : Edit)
     → (changed f (said m) e).generation ≡ generation_after e (said m).generation
@@ -191,11 +253,14 @@ kind_mean f m _ = refl
 abbrev pub toy_edits : EditsMean toy
 toy_edits = record {
   formed = λ m. has_none m.extended;
+  served = λ m v form started. started;
   keeps = λ f m e apt form. refl;
   generation = λ f m e apt form. generation_mean f m e;
   volumes = λ f m e apt form. kind_mean f m e;
   shape = λ f m e v apt form. refl;
   dirty = λ f m e v apt form. dirty_mean f m e v apt;
   expects = λ f m e serial apt form. expects_mean f m e serial apt;
-  slots = λ f m e v apt form started. slots_mean f m e v apt started;
+  supported = λ f m e v apt form is. is;
+  slots = λ f m e v apt form is. slots_mean f m e v apt is;
+  pass = λ f m e v apt form started none. passes_mean f m e v started apt none;
 }

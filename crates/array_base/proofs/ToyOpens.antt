@@ -1,6 +1,7 @@
 -- The small setting meets what laws take as given, and opens.
 use Rattle.std.proofs.Common.{◌≡◌, ℕ, zero, suc, ◌+◌, ◌<◌, ◌≤◌, ◌==◌, ◌||◌, ◌&&◌, not, nat_le, nat_lt, Bool, true, false, if◌then◌else◌, List, [], ◌∷◌, length, refl, ap, sym, ◌∙◌, subst, arith, inl, inr, Option, Some, None, cond}
 use Rattle.std.specs.Prelude.{slice_index}
+use Rattle.std.specs.List.{AllByRecursion}
 use Rattle.std.specs.Str.{bytes_eq}
 use Rattle.std.proofs.lemmas.Bool.Decides.{nat_tests}
 use Rattle.units.specs.declared.disk.Sector.{Sector}
@@ -14,9 +15,9 @@ use Rattle.array_machine.specs.Operations.{sector_in, place_or}
 use Rattle.array_machine.specs.Volumes.{volume_at}
 use Rattle.array_machine.specs.Rounds.{expects}
 use Rattle.array_paths.specs.Ready.{RowsInside}
-use Rattle.array_base.specs.Premises.{generation_of, Premises}
+use Rattle.array_base.specs.Premises.{generation_of, IsToldOf, Premises}
 use Rattle.array_base.specs.Opening.{first_at, HoldsContainer, OpensAs, Opening}
-use Rattle.array_base.specs.Toy.{nothing, said, says_yes, serial_of, is_at, expected_in, recorded_in, has_none, toy, toy_newest, toy_volumes}
+use Rattle.array_base.specs.Toy.{nothing, said, says_yes, serial_of, is_at, expected_in, recorded_in, slot_of, slots_in, has_none, toy, toy_newest, toy_volumes}
 use Rattle.array_base.proofs.Targets.{or_cases, or_neither}
 use Rattle.array_base.proofs.Added.{alike_itself}
 use Rattle.array_base.proofs.ToyEdits.{same_serial, toy_edits}
@@ -30,6 +31,10 @@ none_left (x ∷ xs) h = absurd cc
 first_of_and : (a b : Bool) → (a && b) ≡ true → a ≡ true
 first_of_and true b h = refl
 first_of_and false b h = absurd cc
+
+second_of_and : (a b : Bool) → (a && b) ≡ true → b ≡ true
+second_of_and true b h = h
+second_of_and false b h = absurd cc
 
 pub one_number : (d e : ℕ) → serial_of d ≡ serial_of e → d ≡ e
 one_number d e same = ap (λ (xs : List ℕ). slice_index xs 0) same
@@ -87,11 +92,33 @@ has_space n b c h =
     let le = first_of_and (nat_le METADATA_SECTORS n) b (first_of_and (nat_le METADATA_SECTORS n && b) c h) in
     grind (arith, nat_tests, le)
 
+-- a slot is in sync only where it is expected, and one that is expected is by the block
+slot_told : (m : Laid) (d expected in_sync : ℕ) → (says_yes expected ≡ true → expected_in (said m) (serial_of d) ≡ true)
+    → IsToldOf toy m (slot_of d expected in_sync)
+slot_told m d expected in_sync listed = record {
+  in_sync = λ is. second_of_and (says_yes in_sync) (says_yes expected) is;
+  expected = listed;
+}
+
+one_of : (n : ℕ) (b c : Bool) → says_yes n ≡ true → (says_yes n || b || c) ≡ true
+one_of n b c is = rw is refl
+
+two_of : (n k : ℕ) (b : Bool) → says_yes k ≡ true → (is_at (serial_of 1) 0 n || says_yes k || b) ≡ true
+two_of n k b is = rw is refl
+
+pub slots_told : (m : Laid) → AllByRecursion (IsToldOf toy m) (slots_in (said m))
+slots_told m =
+    let x = said m in
+    let first = one_of x.first (is_at (serial_of 0) 1 x.second) (is_at (serial_of 0) 2 x.third) in
+    let second = two_of x.first x.second (is_at (serial_of 1) 2 x.third) in
+    (slot_told m 0 x.first x.first_sync first, (slot_told m 1 x.second x.second_sync second, tt))
+
 abbrev pub toy_premises : Premises toy
 toy_premises = record {
   edits = toy_edits;
   fits = λ m form. fits_end m form;
   named = λ m d form is. named m d is;
+  told = λ m v form is. slots_told m;
   seats = λ m v d w form whole started seat. has_rows;
   stays_whole = λ f m e apt room form whole d is. refl;
   room = λ serial n m whole. has_space n (has_none m.extended) (not (is_empty m.anchor.0)) whole;

@@ -1,6 +1,6 @@
 -- How a law follows a run over the base fact: at each effect it may use what holds of the disks before the call, behind
 -- it, and behind the change. Source: this project's own.
-use Rattle.std.specs.Prelude.{ℕ, ◌+◌, List, Option}
+use Rattle.std.specs.Prelude.{ℕ, ◌+◌, List, [], ◌∷◌, Option}
 use Rattle.device_log.specs.Log.{Call}
 use Rattle.array_model.specs.Renewal.{FitsGeneration}
 use Rattle.array_machine.specs.Setting.{Setting}
@@ -8,7 +8,7 @@ use Rattle.array_machine.specs.Volumes.{Volume}
 use Rattle.array_machine.specs.Rounds.{Ended}
 use Rattle.array_machine.specs.Changes.{Change}
 use Rattle.array_machine.specs.Puts.{put}
-use Rattle.array_machine.specs.Machine.{Actor, World, begins_at, log_after, Reached}
+use Rattle.array_machine.specs.Machine.{Actor, Action, turn, World, begins_at, log_after, Reached}
 use Rattle.array_paths.specs.InTurn.{InTurn}
 use Rattle.array_paths.specs.Effects.{Effect, after_effect}
 use Rattle.array_paths.specs.Follows.{in_turn}
@@ -58,3 +58,15 @@ abbrev pub OfEachHonestWorld : ((S : Setting) → Premises S → World → Type 
 OfEachHonestWorld Law =
     (S : Setting) (P : Premises S) (volumes : List Volume) (spares : List ℕ) → Opening S P volumes spares
     → (w : World) → HonestRun S volumes spares w → Law S P w
+
+-- WITH THE REST OF A TURN
+
+-- A fact of the turn, of the world, and of the changes that the turn has still to make; between turns there are none. So
+-- a law may rest on the order in which a turn makes its changes.
+pub record FollowsRest (S : Setting) (P : Premises S) (volumes : List Volume) (spares : List ℕ)
+    (Q : InTurn → World → List Change → Type 0) : Type 0 where
+  pub opens : (who : Actor) → Q (in_turn (begins_at S volumes spares).control who) (begins_at S volumes spares) []
+  pub begins : (t : InTurn) (w : World) (a : Action) → Q t w []
+      → Q (in_turn w.control a.actor) w (turn S w.control a).changes
+  pub step : (t : InTurn) (w : World) (call : Option Call) (x : Ended) (a : Change) (more : List Change)
+      → OverBase S P t w call x a → Q t w (a ∷ more) → Q t (after_effect S w call a) more

@@ -2,6 +2,7 @@
 -- meet. A block is whole only at the end of a disk with room for it, and edits keep it whole. Source: this project's
 -- own, over load_imsm_mpb, store_imsm_mpb and imsm_process_update of super-intel.c.
 use Rattle.std.specs.Prelude.{◌≡◌, ℕ, ◌+◌, ◌<◌, ◌≤◌, Bool, true, false, List, [], length, slice_get, Some, ⊤}
+use Rattle.std.specs.List.{AllByRecursion}
 use Rattle.units.specs.declared.bounds.TheConstants.{METADATA_SECTORS}
 use Rattle.array_model.specs.Blocks.{Laid, SlotWords, is_container}
 use Rattle.array_disks.specs.Held.{IsWholeOn}
@@ -74,17 +75,24 @@ module _ (S : Setting) where
     pub expected : w.is_expected ≡ true
     pub serial : w.serial ≡ S.start.disks.serial d
 
+  -- a slot in sync is of an expected record, and the block expects the disk of such a record
+  pub record IsToldOf (m : Laid) (w : SlotWords) : Type 0 where
+    pub in_sync : w.is_in_sync ≡ true → w.is_expected ≡ true
+    pub expected : w.is_expected ≡ true → S.start.words.expects m w.serial ≡ true
+
   -- ALL THAT IS GIVEN
 
-  -- Edits mean what their names say. A block of the form that they keep fits the end of a disk, expects disks of the
-  -- bank alone, and has slots of started volumes only on disks that are large enough for the rows; an edit that fits
-  -- keeps it whole. A block is whole only where there is room, its anchor says whether it is a container's, and it
-  -- expects no disk without a record. A spare's block is one. Disks have serials of their own, and operations name rows
-  -- of their volumes.
+  -- Edits mean what their names say. A block of the form that they keep fits the end of a disk and expects disks of the
+  -- bank alone. Its slots are in sync only where it expects their disks, and those of started volumes stand only on disks
+  -- that are large enough for the rows. An edit that fits keeps it whole. A block is whole only where there is room, its
+  -- anchor says whether it is a container's, and it expects no disk without a record. A spare's block is one. Disks have
+  -- serials of their own, and operations name rows of their volumes.
   pub record Premises : Type 0 where
     pub edits : EditsMean S
     pub fits : (m : Laid) → edits.formed m ≡ true → FitsEnd S.start.words m
     pub named : (m : Laid) (d : ℕ) → edits.formed m ≡ true → expects S m d ≡ true → d < S.start.disks.count
+    pub told : (m : Laid) (v : ℕ) → edits.formed m ≡ true → S.start.words.is_supported m v ≡ true
+        → AllByRecursion (IsToldOf m) (S.start.words.slots m v)
     pub seats : (m : Laid) (v d : ℕ) (w : SlotWords) → edits.formed m ≡ true → IsWholeOnItsDisks m
         → S.start.is_started v ≡ true → IsSlotOf m v d w
         → (S.start.words.shape m v).pba + (S.start.words.shape m v).rows + METADATA_SECTORS ≤ S.start.disks.sectors d

@@ -1,7 +1,7 @@
 -- A small setting: a mirror of two disks, and a third that is blank and is to be added. A block is one sector of
 -- numbers: whether it is a container's, its generation, whether its volume is dirty, of each disk whether it is
 -- expected, and of both slots whether they are in sync. Source: this project's own.
-use Rattle.std.specs.Prelude.{ℕ, ◌==◌, ◌||◌, ◌&&◌, not, nat_le, nat_lt, Bool, true, false, if◌then◌else◌, List, [], ◌∷◌, map, slice_index, Some, None}
+use Rattle.std.specs.Prelude.{ℕ, ◌==◌, ◌||◌, ◌&&◌, not, nat_le, nat_lt, Bool, true, false, if◌then◌else◌, List, [], ◌∷◌, map, slice_index, Option, Some, None}
 use Rattle.std.specs.Str.{bytes_eq}
 use Rattle.units.specs.declared.disk.Sector.{Sector}
 use Rattle.units.specs.declared.bounds.TheConstants.{METADATA_SECTORS}
@@ -76,11 +76,19 @@ slot_of d expected in_sync = record {
   index = d;
   serial = serial_of d;
   is_expected = says_yes expected;
-  is_in_sync = says_yes in_sync;
+  is_in_sync = says_yes in_sync && says_yes expected;
 }
 
 abbrev pub slots_in : Said → List SlotWords
 slots_in x = slot_of 0 x.first x.first_sync ∷ slot_of 1 x.second x.second_sync ∷ []
+
+-- a rebuild (1) is open while a slot of an expected disk is out of sync
+abbrev pub is_to_rebuild : (expected in_sync : ℕ) → Bool
+is_to_rebuild expected in_sync = says_yes expected && not (says_yes in_sync)
+
+abbrev pub pass_in : Said → Option ℕ
+pass_in x =
+    if is_to_rebuild x.first x.first_sync || is_to_rebuild x.second x.second_sync then Some 1 else None
 
 abbrev pub has_none : List Sector → Bool
 has_none [] = true
@@ -103,7 +111,7 @@ toy_words = record {
   is_dirty = λ m v. (v == 0) && says_yes (said m).dirty;
   is_unfinished = λ m v. false;
   can_run = λ m v. v == 0;
-  pass = λ m v. None;
+  pass = λ m v. pass_in (said m);
   unit = λ m v. 0;
   pass_start = λ m v. 0;
   shape = λ m v. the_shape;
