@@ -4,8 +4,8 @@ use Rattle.std.proofs.lemmas.Bool.{and_parts}
 use Rattle.std.proofs.lemmas.List.{get_or-set_other, length-append}
 use Rattle.byteorder.specs.Endian.{little_bytes}
 use Rattle.imsm_base.specs.Fields.{Part}
-use Rattle.imsm_base.specs.Layout.{Block, Volume, IsVolume, header_lengths, serial_of, disk_count_of}
-use Rattle.imsm_base.specs.Volumes.{member, is_expected_at, is_dirty}
+use Rattle.imsm_base.specs.Layout.{Block, Volume, IsVolume, header_lengths, serial_of, disk_count_of, IsBlock}
+use Rattle.imsm_base.specs.Volumes.{member, is_expected_at, is_dirty, has_pass}
 use Rattle.imsm_base.specs.Whole.{is_expected}
 use Rattle.imsm_base.specs.EditsOfTables.{block_with_disk}
 use Rattle.imsm_base.proofs.Spliced.{set-lengths}
@@ -15,7 +15,7 @@ use Rattle.imsm_edit.specs.Meanings.{with_states}
 use Rattle.imsm_edit.specs.Slots.{changed_each}
 use Rattle.array_model.specs.Start.{Start}
 use Rattle.block_meaning.specs.Meaning.{slot_words}
-use Rattle.array_machine.specs.Setting.{Facts, ActivatesDisk}
+use Rattle.array_machine.specs.Setting.{Facts, ActivatesDisk, RemovesDisk}
 use Rattle.array_machine.specs.EditWords.{KeepsSlot, TakesSlot}
 use Rattle.array_edits.specs.Records.{rebuilt, has_slot, has_sectors_for, takes_spare, with_spare}
 use Rattle.array_edits.proofs.Steady.{Steady}
@@ -30,28 +30,32 @@ use Rattle.array_edits.proofs.Disks.{serial_at}
 use Rattle.array_edits.proofs.Added.{added_before, added_last, added_lengths, added_apart, added_expects, added_own}
 use Rattle.array_edits.proofs.Wide.{alike_in}
 use Rattle.array_edits.proofs.Spares.{IsLeft, IsTaken, Gives, gives_none, gives_rebuilt, HasRoom, spared, AllGive, spared_at, spared_zip, spared_slot, spared_count, spared_moves}
+use Rattle.array_edits.proofs.Idle.{pass_none, kept_zip}
 
 -- THE SLOTS
 
--- a slot of a started volume has a record of the table
-index_inside : (start : Start) (b : Block) (k s : ℕ) → IsSound start b → start.is_started k ≡ true → s < slots_at b k → index_at b k s < length b.disks
-index_inside start b k s sound started inside =
-    let served : IsServed b k = sound.served k started in
+-- a slot of a supported volume has a record of the table
+index_inside : (b : Block) (k s : ℕ) → IsBlock b → IsServed b k → s < slots_at b k → index_at b k s < length b.disks
+index_inside b k s is served inside =
     let parts : Supports b k (volume_at k b) = supports b k (volume_at k b) served.supported in
     let apart : SlotsApart b (volume_at k b) = slots_apart b (volume_at k b) parts.slots in
     let low = apart.below s inside in
-    omega (arith, sound.is.disk_count)
+    omega (arith, is.disk_count)
 
-slot_after : (f : Facts) (b : Block) (i k s : ℕ) (disk : Part) (h : ℕ → Volume → Volume) (v x : Volume) → is_expected disk ≡ true → (member v s).index < length b.disks → IsLeft v x s ⊎ IsTaken b i (length b.disks) disk v x s →
-    KeepsSlot (slot_words b (member v s)) (slot_words (spared b disk h) (member x s)) ⊎ TakesSlot (serial_of disk) i (slot_words b (member v s)) (slot_words (spared b disk h) (member x s))
-slot_after f b i k s disk h v x known low (inl l) =
+slot_left : (b : Block) (s : ℕ) (disk : Part) (h : ℕ → Volume → Volume) (v x : Volume) → (member v s).index < length b.disks → IsLeft v x s →
+    KeepsSlot (slot_words b (member v s)) (slot_words (spared b disk h) (member x s))
+slot_left b s disk h v x low l =
     let c : Block = spared b disk h in
     let expected : is_expected_at c (member x s).index ≡ is_expected_at b (member v s).index = ap (is_expected_at c) l.index ∙ added_before is_expected false b disk (member v s).index low in
-    inl (record {
+    record {
       serial = ap (serial_at c) l.index ∙ added_before serial_of [] b disk (member v s).index low;
       expected = expected;
       in_sync = ap (λ (t : Bool). not (member x s).is_out && t) expected ∙ ap (λ (t : Bool). not t && is_expected_at b (member v s).index) l.out;
-    })
+    }
+
+slot_after : (f : Facts) (b : Block) (i k s : ℕ) (disk : Part) (h : ℕ → Volume → Volume) (v x : Volume) → is_expected disk ≡ true → (member v s).index < length b.disks → IsLeft v x s ⊎ IsTaken b i (length b.disks) disk v x s →
+    KeepsSlot (slot_words b (member v s)) (slot_words (spared b disk h) (member x s)) ⊎ TakesSlot (serial_of disk) i (slot_words b (member v s)) (slot_words (spared b disk h) (member x s))
+slot_after f b i k s disk h v x known low (inl l) = inl (slot_left b s disk h v x low l)
 slot_after f b i k s disk h v x known low (inr t) =
     let c : Block = spared b disk h in
     inr (record {
@@ -74,6 +78,8 @@ spared_means start f b i disk h s known room gives =
     let small = room.small in
     let count : disk_count_of c ≡ length b.disks + 1 = spared_count b disk h start s room in
     let zip = spared_zip b i disk h gives in
+    let served : (v : ℕ) → IsServed b v → IsServed c v = λ v is.
+    served_moved b c v zip (spared_moves start b i disk h v s room gives is.below) is in
     record {
       sound = made_sound start b c s (record {
         header = set-lengths header_lengths b.header 8 bytes s.is.header refl;
@@ -86,17 +92,27 @@ spared_means start f b i disk h s known room gives =
         disk_count = length-append b.disks (disk ∷ []) ∙ sym count;
         volumes = zip;
       }) (omega (arith, count)) (omega (arith, count, s.is.disk_count)) (omega (arith, count, s.is.disk_count)) (added_apart b disk room.unknown s.apart)
-          (λ v started. let served : IsServed b v = s.served v started in served_moved b c v zip (spared_moves start b i disk h v s room gives served.below) served);
+          (λ v started. served v (s.served v started));
+      served = served;
       volumes = zip;
       generation = other_field b 8 5 bytes (λ e. omega arith);
       dirty = λ v below. ap is_dirty (spared_at b disk h v below) ∙ (gives v below).dirty;
       past = λ v past. refl;
       expects = λ other. added_expects b disk other known;
-      slots = λ v started.
-          let served : IsServed b v = s.served v started in
-          let steady : Steady (volume_at v b) (volume_at v c) = steady_at b c v zip served.below in
+      slots = λ v is.
+          let steady : Steady (volume_at v b) (volume_at v c) = steady_at b c v zip is.below in
           slots_by f (ActivatesDisk (serial_of disk) i) v b c (volume_at v b) (volume_at v c) steady.first.count
-          (λ n inside. slot_after f b i v n disk h (volume_at v b) (volume_at v c) known (index_inside start b v n s started inside) (spared_slot b i disk h v n gives served.below inside));
+          (λ n inside. slot_after f b i v n disk h (volume_at v b) (volume_at v c) known (index_inside b v n s.is is inside) (spared_slot b i disk h v n gives is.below inside));
+      pass = λ v is idle.
+          let steady : Steady (volume_at v b) (volume_at v c) = steady_at b c v zip is.below in
+          let at : volume_at v c ≡ h v (volume_at v b) = spared_at b disk h v is.below in
+          let none = (gives v is.below).idle (ap has_pass (sym at) ∙ idle) in
+          let left : (n : ℕ) → n < slots_at b v → IsLeft (volume_at v b) (volume_at v c) n = λ n inside.
+          subst (λ (x : Volume). IsLeft (volume_at v b) x n) (sym at) (none.1 n inside) in (
+            pass_none (volume_at v b) none.0,
+            kept_zip f (serial_of disk) v _ _ (slots_by f (RemovesDisk (serial_of disk)) v b c (volume_at v b) (volume_at v c) steady.first.count
+                (λ n inside. slot_left b n disk h (volume_at v b) (volume_at v c) (index_inside b v n s.is is inside) (left n inside))),
+          );
       own = added_own b disk known room.unknown;
     }
 

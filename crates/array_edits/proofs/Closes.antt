@@ -1,5 +1,5 @@
 -- A pass that closes: each slot of an expected disk that works is in sync, and the others are as they were.
-use Rattle.std.proofs.Common.{◌≡◌, ℕ, zero, suc, ◌<◌, ◌==◌, ◌&&◌, ◌||◌, not, if◌then◌else◌, Bool, true, false, List, [], ◌∷◌, length, map, set, refl, sym, ◌∙◌, ap, subst, arith}
+use Rattle.std.proofs.Common.{◌≡◌, ℕ, zero, suc, ◌<◌, ◌==◌, ◌&&◌, ◌||◌, not, if◌then◌else◌, Bool, true, false, List, [], ◌∷◌, length, map, set, refl, sym, ◌∙◌, ap, subst, arith, inl, inr}
 use Rattle.std.specs.Prelude.{slice_get}
 use Rattle.std.specs.Option.{option_map_or}
 use Rattle.std.specs.Int.{bit_at}
@@ -164,9 +164,11 @@ close_means start f b k s started =
       migration = λ good. closed_good z two.is;
       index = λ i inside. closed_index working v i is inside;
       slot = λ i inside. fills_here (k == k) f (slot_words b (member v i)) (slot_words b (member (with_pass_closed working v) i)) (eq-eqb k k refl) (closed_fills f b v i is inside);
+      pass = λ idle. inr (eq-eqb k k refl);
       dirty = closed_dirty z;
       generation = λ n. refl;
       expects = λ serial x. refl;
       other_slot = λ w other slot. fills_other (k == w) f slot (other_number k w other);
+      other_pass = λ w other was ws none. inl none;
       other_dirty = λ w other u x. refl;
     }))

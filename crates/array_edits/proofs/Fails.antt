@@ -1,11 +1,11 @@
 -- A disk that fails isn't expected any more and is out of sync; one that counts out is out of sync.
-use Rattle.std.proofs.Common.{◌≡◌, ℕ, ◌<◌, ◌==◌, ◌&&◌, ◌||◌, not, if◌then◌else◌, Bool, true, false, List, [], length, map, get_or, Option, Some, None, refl, sym, ◌∙◌, ap, subst, inl, inr}
+use Rattle.std.proofs.Common.{◌≡◌, ℕ, ◌<◌, ◌==◌, ◌&&◌, ◌||◌, not, if◌then◌else◌, Bool, true, false, List, [], length, map, get_or, Option, Some, None, refl, sym, ◌∙◌, ap, subst, inl, inr, ◌⊎◌}
 use Rattle.std.specs.Prelude.{is_none, slice_get}
 use Rattle.std.specs.Option.{option_map_or}
 use Rattle.std.specs.Str.{bytes_eq}
 use Rattle.std.proofs.lemmas.Bool.{and_from, cases_lt, eqb-true, eqb-false, ne_eqb, false≢true, false_from_ne_true}
 use Rattle.imsm_base.specs.Layout.{Block, Volume, IsVolume, serial_of, member_count_of}
-use Rattle.imsm_base.specs.Volumes.{Fault, Member, first_map, member, members, is_expected_at, is_dirty, volume_fault}
+use Rattle.imsm_base.specs.Volumes.{Fault, Member, first_map, member, members, is_expected_at, is_dirty, volume_fault, has_pass, pass_of}
 use Rattle.imsm_base.specs.Whole.{AreApart, is_expected, expected_serials}
 use Rattle.imsm_codec.specs.Mpb.{volume_at}
 use Rattle.imsm_edit.specs.declared.facts.EditFacts.{EditFacts}
@@ -14,7 +14,7 @@ use Rattle.imsm_edit.specs.Failures.{record_failed, without_member, settled, vol
 use Rattle.array_model.specs.Start.{Start}
 use Rattle.block_meaning.specs.Meaning.{has_serial, slot_words}
 use Rattle.array_machine.specs.Setting.{Facts, FailsDisk, CountsOut}
-use Rattle.array_machine.specs.EditWords.{LosesSlot, OutOfSlot, SlotsAfter}
+use Rattle.array_machine.specs.EditWords.{LosesSlot, OutOfSlot, SlotsAfter, NeedsNoRebuild, HasNoPass}
 use Rattle.array_edits.specs.Records.{expected_index}
 use Rattle.array_edits.specs.Passes.{settled_out, volume_out, marked_out}
 use Rattle.array_edits.specs.RealEdits.{facts_in, block_edited}
@@ -28,8 +28,12 @@ use Rattle.array_edits.proofs.Means.{Means}
 use Rattle.array_edits.proofs.Marks.{volume_is}
 use Rattle.array_edits.proofs.Disks.{serial_eq, expects_serial, has_expected, no_position, IsRecord, index_record, record_at, record_past, serial_at, eq_serial, other_serial}
 use Rattle.array_edits.proofs.Lost.{lost_fails_at, lost_serial, lost_sectors, lost_expected, lost_disks, lost_count, lost_apart, lost_expects, lost_own}
-use Rattle.array_edits.proofs.Wide.{alike_in, none_from, without_steady, without_index, without_out, Settles, settles_failed, settles_out}
-use Rattle.array_edits.proofs.Spread.{Stays, stays_itself, stays_without, stays_settled, told_by, Spreads, spread_at, spread_steady, spread_sound}
+use Rattle.array_edits.proofs.Wide.{alike_in, none_from, without_steady, without_index, without_out, Settles, settles_itself, settles_failed, settles_out, failed_idle, out_idle}
+use Rattle.array_edits.proofs.Spread.{Stays, stays_itself, stays_without, stays_settled, Spreads, spread_at, spread_steady, spread_served, spread_sound}
+use Rattle.std.specs.List.{AllByRecursion}
+use Rattle.imsm_edit.specs.Passes.{has_to_rebuild}
+use Rattle.array_edits.proofs.Idle.{words_of, pass_none, whole_words}
+use Rattle.array_edits.proofs.Starts.{rebuilds_none}
 
 -- WITHOUT A RECORD
 
@@ -106,11 +110,16 @@ edited_stay b r started i k v after is settles =
     (λ e. stays_without i v is))
     (λ e. stays_itself v is)
 
--- of a started one
-edited_started : (b : Block) (started : Bool) (k : ℕ) (v after less : Volume) → started ≡ true → volume_fault b k v ≡ None →
-    (if is_none (volume_fault b k v) then (if started then after else less) else v) ≡ after
-edited_started b started k v after less e none =
-    ap (λ (o : Option Fault). if is_none o then (if started then after else less) else v) none ∙ ap (λ (t : Bool). if t then after else less) e
+-- of a supported one
+edited_served : (b : Block) (started : Bool) (k : ℕ) (v after less : Volume) → volume_fault b k v ≡ None →
+    (if is_none (volume_fault b k v) then (if started then after else less) else v) ≡ (if started then after else less)
+edited_served b started k v after less none =
+    ap (λ (o : Option Fault). if is_none o then (if started then after else less) else v) none
+
+-- one that isn't started keeps its pass and its states
+settles_started : (b : Block) (started : Bool) (v x : Volume) → IsVolume v → Settles b v x → Settles b v (if started then x else v)
+settles_started b true v x is t = t
+settles_started b false v x is t = settles_itself b v is
 
 -- A DISK THAT FAILS
 
@@ -133,24 +142,24 @@ failed_spreads start f b serial i s r = record {
       (λ like. settles_failed (record_failed b i) broken (without_member i v) (without_steady i v is).is like);
 }
 
-failed_slots : (start : Start) (f : Facts) (b : Block) (serial : List ℕ) (i k : ℕ) → IsSound start b → IsRecord serial b i → start.is_started k ≡ true →
+failed_slots : (start : Start) (f : Facts) (b : Block) (serial : List ℕ) (i k : ℕ) → IsSound start b → IsRecord serial b i → IsServed b k →
     let c = marked_failed b i (facts_in start f b) in
     SlotsAfter f (FailsDisk serial) k (map (slot_words b) (members (volume_at k b))) (map (slot_words c) (members (volume_at k c)))
-failed_slots start f b serial i k s r started =
+failed_slots start f b serial i k s r served =
     let facts : EditFacts = facts_in start f b in
     let c : Block = marked_failed b i facts in
     let q : Block = record_failed b i in
     let v : Volume = volume_at k b in
     let w : Volume = without_member i v in
     let broken : Bool = is_told facts.broken.items k in
-    let x : Volume = settled q broken w in
-    let served : IsServed b k = s.served k started in
+    let started : Bool = is_told facts.started.items k in
+    let x : Volume = if started then settled q broken w else w in
     let is : IsVolume v = volume_is start b k s served.below in
     let less : Steady v w = without_steady i v is in
-    let t : Settles q w x = settles_failed q broken w less.is (less.alike (alike_in b k v served.supported)) in
-    let told : is_told facts.started.items k ≡ true = told_by start.is_started (length b.volumes) k served.below ∙ started in
+    let t : Settles q w x = settles_started q started w (settled q broken w) less.is
+    (settles_failed q broken w less.is (less.alike (alike_in b k v served.supported))) in
     let at : volume_at k c ≡ x = spread_at b c (failed_by start f b i) k (failed_spreads start f b serial i s r) served.below
-    ∙ edited_started b (is_told facts.started.items k) k v x w told served.supported in
+    ∙ edited_served b started k v (settled q broken w) w served.supported in
     let each : (n : ℕ) → n < member_count_of (first_map v) → LosesSlot serial (slot_words b (member v n)) (slot_words c (member x n)) = λ n inside.
     let within : n < member_count_of (first_map w) = subst (λ (z : ℕ). n < z) (sym less.first.count) inside in
     let index : (member w n).index ≡ (member v n).index = without_index i v n is inside in
@@ -160,6 +169,54 @@ failed_slots start f b serial i k s r started =
     (ne_eqb (member v n).index i (λ same. false≢true (sym (lost_fails_at b i s.is r.below) ∙ ap (is_expected_at q) (sym same) ∙ expected)))) in
     subst (λ (y : Volume). SlotsAfter f (FailsDisk serial) k (map (slot_words b) (members v)) (map (slot_words c) (members y))) (sym at)
     (slots_by f (FailsDisk serial) k b c v x (t.steady.first.count ∙ less.first.count) each)
+
+-- a pass is closed only where no slot is to be rebuilt
+failed_pass : (start : Start) (f : Facts) (b : Block) (serial : List ℕ) (i k : ℕ) → IsSound start b → IsRecord serial b i → IsServed b k →
+    let c = marked_failed b i (facts_in start f b) in
+    has_pass (volume_at k c) ≡ false → HasNoPass (FailsDisk serial) k (pass_of (volume_at k b)) (words_of b (volume_at k b)) (words_of c (volume_at k c))
+failed_pass start f b serial i k s r served none =
+    let c : Block = marked_failed b i facts in
+    let at : volume_at k c ≡ x = spread_at b c (failed_by start f b i) k (failed_spreads start f b serial i s r) served.below
+    ∙ edited_served b started k v (settled q broken w) w served.supported in
+    elim (by_started started (ap has_pass (sym at) ∙ none)) [
+      | inl idle ↦ inl (pass_none v idle)
+      | inr whole ↦ inr (subst (λ (y : Volume). AllByRecursion NeedsNoRebuild (words_of c y)) (sym at)
+          (whole_words c x (λ n inside expected.
+          let within : n < member_count_of (first_map w) = subst (λ (z : ℕ). n < z) t.steady.first.count inside in
+          let sound : is_expected_at q (member w n).index ≡ true = ap (is_expected_at q) (sym (t.index n within)) ∙ expected in
+          t.out n within sound ∙ rebuilds_none q w n within whole sound)))
+    ]
+  where
+    facts : EditFacts
+    facts = facts_in start f b
+
+    q : Block
+    q = record_failed b i
+
+    v : Volume
+    v = volume_at k b
+
+    w : Volume
+    w = without_member i v
+
+    broken : Bool
+    broken = is_told facts.broken.items k
+
+    started : Bool
+    started = is_told facts.started.items k
+
+    x : Volume
+    x = if started then settled q broken w else w
+
+    less : Steady v w
+    less = without_steady i v (volume_is start b k s served.below)
+
+    t : Settles q w x
+    t = settles_started q started w (settled q broken w) less.is (settles_failed q broken w less.is (less.alike (alike_in b k v served.supported)))
+
+    by_started : (on : Bool) → has_pass (if on then settled q broken w else w) ≡ false → (has_pass v ≡ false) ⊎ (has_to_rebuild q w ≡ false)
+    by_started true idle = failed_idle q broken w idle
+    by_started false idle = inl idle
 
 failed_record : (start : Start) (f : Facts) (b : Block) (serial : List ℕ) (i : ℕ) → IsSound start b → IsRecord serial b i → Means start f (FailsDisk serial) b (marked_failed b i (facts_in start f b))
 failed_record start f b serial i s r =
@@ -172,7 +229,9 @@ failed_record start f b serial i s r =
       dirty = λ v below. ap is_dirty (spread_at b c (failed_by start f b i) v p below) ∙ (p.stay v below).dirty;
       past = λ v past. refl;
       expects = λ other. lost_expects b serial other i s.is s.apart r;
-      slots = λ v started. failed_slots start f b serial i v s r started;
+      served = spread_served start b c (failed_by start f b i) s p (lost_sectors b i r.below);
+      slots = λ v served. failed_slots start f b serial i v s r served;
+      pass = λ v served none. failed_pass start f b serial i v s r served none;
       own = lost_own b serial i s.is s.apart r;
     }
 
@@ -188,8 +247,10 @@ fail_means start f b serial s = by_record (expected_index serial b) refl
       dirty = λ v below. refl;
       past = λ v past. refl;
       expects = λ other. none_expects serial other b e;
-      slots = λ v started. slots_by f (FailsDisk serial) v b b (volume_at v b) (volume_at v b) refl
+      served = λ v is. is;
+      slots = λ v is. slots_by f (FailsDisk serial) v b b (volume_at v b) (volume_at v b) refl
           (λ n inside. let m : Member = member (volume_at v b) n in loses serial b b m m refl refl (sym (none_here serial b e m.index)) (λ expected. refl));
+      pass = λ v is none. inl (pass_none (volume_at v b) none);
       own = λ other n expected own. own;
     }
 
@@ -236,23 +297,22 @@ outs serial b c i m n apart r disks index out = record {
         and_false true = refl
         and_false false = refl
 
-out_slots : (start : Start) (f : Facts) (b : Block) (serial : List ℕ) (i k : ℕ) → IsSound start b → IsRecord serial b i → start.is_started k ≡ true →
+out_slots : (start : Start) (f : Facts) (b : Block) (serial : List ℕ) (i k : ℕ) → IsSound start b → IsRecord serial b i → IsServed b k →
     let c = marked_out b i (facts_in start f b) in
     SlotsAfter f (CountsOut serial) k (map (slot_words b) (members (volume_at k b))) (map (slot_words c) (members (volume_at k c)))
-out_slots start f b serial i k s r started =
+out_slots start f b serial i k s r served =
     let facts : EditFacts = facts_in start f b in
     let c : Block = marked_out b i facts in
     let v : Volume = volume_at k b in
     let w : Volume = without_member i v in
     let broken : Bool = is_told facts.broken.items k in
-    let x : Volume = settled_out b broken w in
-    let served : IsServed b k = s.served k started in
+    let started : Bool = is_told facts.started.items k in
+    let x : Volume = if started then settled_out b broken w else w in
     let is : IsVolume v = volume_is start b k s served.below in
     let less : Steady v w = without_steady i v is in
-    let t : Settles b w x = settles_out b broken w less.is in
-    let told : is_told facts.started.items k ≡ true = told_by start.is_started (length b.volumes) k served.below ∙ started in
+    let t : Settles b w x = settles_started b started w (settled_out b broken w) less.is (settles_out b broken w less.is) in
     let at : volume_at k c ≡ x = spread_at b c (out_by start f b i) k (out_spreads start f b i s) served.below
-    ∙ edited_started b (is_told facts.started.items k) k v x w told served.supported in
+    ∙ edited_served b started k v (settled_out b broken w) w served.supported in
     let each : (n : ℕ) → n < member_count_of (first_map v) → OutOfSlot serial (slot_words b (member v n)) (slot_words c (member x n)) = λ n inside.
     let within : n < member_count_of (first_map w) = subst (λ (z : ℕ). n < z) (sym less.first.count) inside in
     let index : (member w n).index ≡ (member v n).index = without_index i v n is inside in
@@ -260,6 +320,20 @@ out_slots start f b serial i k s r started =
     (λ expected. t.out n within (ap (is_expected_at b) index ∙ expected) ∙ without_out i v n is inside) in
     subst (λ (y : Volume). SlotsAfter f (CountsOut serial) k (map (slot_words b) (members v)) (map (slot_words c) (members y))) (sym at)
     (slots_by f (CountsOut serial) k b c v x (t.steady.first.count ∙ less.first.count) each)
+
+out_pass : (start : Start) (f : Facts) (b : Block) (i k : ℕ) → IsSound start b → IsServed b k → has_pass (volume_at k (marked_out b i (facts_in start f b))) ≡ false → pass_of (volume_at k b) ≡ None
+out_pass start f b i k s served none =
+    let facts : EditFacts = facts_in start f b in
+    let c : Block = marked_out b i facts in
+    let v : Volume = volume_at k b in
+    let started : Bool = is_told facts.started.items k in
+    let at = spread_at b c (out_by start f b i) k (out_spreads start f b i s) served.below
+    ∙ edited_served b started k v (settled_out b (is_told facts.broken.items k) (without_member i v)) (without_member i v) served.supported in
+    pass_none v (by_started (is_told facts.broken.items k) started v (ap has_pass (sym at) ∙ none))
+  where
+    by_started : (broken on : Bool) (v : Volume) → has_pass (if on then settled_out b broken (without_member i v) else without_member i v) ≡ false → has_pass v ≡ false
+    by_started broken true v idle = out_idle b broken (without_member i v) idle
+    by_started broken false v idle = idle
 
 pub out_means : (start : Start) (f : Facts) (b : Block) (serial : List ℕ) → IsSound start b → Means start f (CountsOut serial) b (block_edited start f b (CountsOut serial))
 out_means start f b serial s = by_record (expected_index serial b) refl
@@ -275,7 +349,9 @@ out_means start f b serial s = by_record (expected_index serial b) refl
           dirty = λ v below. ap is_dirty (spread_at b c (out_by start f b i) v p below) ∙ (p.stay v below).dirty;
           past = λ v past. refl;
           expects = λ other. refl;
-          slots = λ v started. out_slots start f b serial i v s (index_record serial b i e) started;
+          served = spread_served start b c (out_by start f b i) s p (λ j n has. has);
+          slots = λ v served. out_slots start f b serial i v s (index_record serial b i e) served;
+          pass = λ v served none. out_pass start f b i v s served none;
           own = λ other n expected own. own;
         }
     by_record None e = record {
@@ -285,7 +361,9 @@ out_means start f b serial s = by_record (expected_index serial b) refl
       dirty = λ v below. refl;
       past = λ v past. refl;
       expects = λ other. refl;
-      slots = λ v started. slots_by f (CountsOut serial) v b b (volume_at v b) (volume_at v b) refl (λ n inside. left (member (volume_at v b) n));
+      served = λ v is. is;
+      slots = λ v is. slots_by f (CountsOut serial) v b b (volume_at v b) (volume_at v b) refl (λ n inside. left (member (volume_at v b) n));
+      pass = λ v is none. pass_none (volume_at v b) none;
       own = λ other n expected own. own;
     }
       where

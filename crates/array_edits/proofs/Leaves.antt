@@ -13,7 +13,7 @@ use Rattle.std.proofs.lemmas.List.Quantifiers.{position-Some}
 use Rattle.byteorder.specs.Endian.{little_bytes}
 use Rattle.imsm_base.specs.Fields.{Part, number}
 use Rattle.imsm_base.specs.Layout.{Block, Volume, IsVolume, IsBlock, serial_of, total_blocks_of, disk_count_of, member_count_of}
-use Rattle.imsm_base.specs.Volumes.{blank_map, first_map, member, is_expected_at, has_migration, has_sectors, is_dirty}
+use Rattle.imsm_base.specs.Volumes.{blank_map, first_map, member, is_expected_at, has_migration, has_sectors, is_dirty, has_pass}
 use Rattle.imsm_base.specs.Whole.{AreApart, is_expected, expected_serials, own_record, first_of}
 use Rattle.imsm_base.specs.EditsOfTables.{lowered, volume_without_disk, block_without_record, block_without_disk}
 use Rattle.imsm_base.proofs.Edited.{other_field}
@@ -34,6 +34,7 @@ use Rattle.array_edits.proofs.Means.{Means, KeepsOwn}
 use Rattle.array_edits.proofs.Marks.{volume_is}
 use Rattle.array_edits.proofs.Entries.{entry_of, first_entries, index_each, index_of_entry, bit_of, out_stays}
 use Rattle.array_edits.proofs.Disks.{serial_eq, eq_serial, ne_serial, expects_serial, has_expected, record_at, record_past, serial_at}
+use Rattle.array_edits.proofs.Idle.{pass_none}
 
 -- A LOWER INDEX
 
@@ -224,6 +225,8 @@ removed_means start f serial b i s none g =
     let count : disk_count_of c ≡ length b.disks - 1 = counted b (length b.disks - 1) s.is (omega (arith, s.is.disk_count, counts.few_disks)) in
     let less : IsBlock (block_without_record b i) = with_disk_less-is b i s.is g.below (omega (arith, s.is.disk_count, counts.few_disks)) in
     let zip : AllZip Steady b.volumes c.volumes = all_lowered i b.volumes s.is.volumes in
+    let served : (v : ℕ) → IsServed b v → IsServed c v = λ v is.
+    served_moved b c v zip (removed_moves start serial b i v s g count is.below) is in
     record {
       sound = made_sound start b c s (record {
         header = less.header;
@@ -237,16 +240,17 @@ removed_means start f serial b i s none g =
         volumes = zip;
       }) (omega (arith, count)) (omega (arith, count, s.is.disk_count, counts.few_disks)) (omega (arith, count, s.is.disk_count))
           (subst AreApart (sym (removed_serials serial b i g)) s.apart)
-          (λ v started. let served : IsServed b v = s.served v started in served_moved b c v zip (removed_moves start serial b i v s g count served.below) served);
+          (λ v started. served v (s.served v started));
+      served = served;
       volumes = zip;
       generation = other_field b 8 5 bytes (λ e. omega arith);
       dirty = λ v below. ap is_dirty (removed_volume b i v below);
       past = λ v past. refl;
       expects = λ other. ap (λ (xs : List (List ℕ)). has_serial xs other) (removed_serials serial b i g);
-      slots = λ v started.
-          let served : IsServed b v = s.served v started in
-          let steady : Steady (volume_at v b) (volume_at v c) = steady_at b c v zip served.below in
-          slots_by f (RemovesDisk serial) v b c (volume_at v b) (volume_at v c) steady.first.count (λ n inside. removed_slot start serial b i v n s g served.below inside);
+      slots = λ v is.
+          let steady : Steady (volume_at v b) (volume_at v c) = steady_at b c v zip is.below in
+          slots_by f (RemovesDisk serial) v b c (volume_at v b) (volume_at v c) steady.first.count (λ n inside. removed_slot start serial b i v n s g is.below inside);
+      pass = λ v is idle. pass_none (volume_at v b) (ap has_pass (sym (removed_volume b i v is.below)) ∙ idle);
       own = removed_own serial b i g none;
     }
 
@@ -259,7 +263,9 @@ left_means start f serial b s = record {
   dirty = λ v below. refl;
   past = λ v past. refl;
   expects = λ other. refl;
-  slots = λ v started. slots_by f (RemovesDisk serial) v b b (volume_at v b) (volume_at v b) refl (λ n inside. keeps_itself (slot_words b (member (volume_at v b) n)));
+  served = λ v is. is;
+  slots = λ v is. slots_by f (RemovesDisk serial) v b b (volume_at v b) (volume_at v b) refl (λ n inside. keeps_itself (slot_words b (member (volume_at v b) n)));
+  pass = λ v is idle. pass_none (volume_at v b) idle;
   own = λ other n expected own. own;
 }
 

@@ -5,6 +5,7 @@ pub mod Supports
 pub mod Moves
 pub mod Sound
 pub mod Slots
+pub mod Idle
 pub mod Means
 pub mod Marks
 pub mod Entries

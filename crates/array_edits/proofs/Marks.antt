@@ -7,7 +7,7 @@ use Rattle.std.proofs.lemmas.List.{get_or-set_same, get_or-set_other, length-tak
 use Rattle.byteorder.specs.Endian.{little_bytes}
 use Rattle.imsm_base.specs.Fields.{Part, number}
 use Rattle.imsm_base.specs.Layout.{Block, Volume, IsVolume, header_lengths, state_lengths, migration_type_of}
-use Rattle.imsm_base.specs.Volumes.{Member, member, has_pass, has_migration, is_dirty}
+use Rattle.imsm_base.specs.Volumes.{Member, member, has_pass, has_migration, is_dirty, pass_of}
 use Rattle.imsm_base.specs.Edits.{volume_with_dirty, block_with_generation}
 use Rattle.imsm_base.specs.EditsOfTables.{volume_with_pass, volume_with_name}
 use Rattle.imsm_base.proofs.Edited.{fields_of, other_field, other_state}
@@ -22,13 +22,15 @@ use Rattle.array_model.specs.Renewal.{FitsGeneration}
 use Rattle.block_meaning.specs.Meaning.{slot_words}
 use Rattle.block_meaning.proofs.Same.{first-dirty}
 use Rattle.array_machine.specs.Setting.{Facts, Edit, TakesGeneration, MakesDirty, MakesClean, RecordsUnit, NamesVolume}
-use Rattle.array_machine.specs.EditWords.{SlotAfter}
+use Rattle.array_machine.specs.EditWords.{SlotAfter, HasNoPass}
 use Rattle.array_edits.specs.RealEdits.{name_bytes, block_edited}
 use Rattle.array_edits.proofs.Steady.{steady_then, with_state}
 use Rattle.array_edits.proofs.Steps.{states_steady, dirty_steady, pass_left, pass_steady, name_steady}
 use Rattle.array_edits.proofs.Sound.{IsSound, made_sound, served_header, volumes_stay}
 use Rattle.array_edits.proofs.Slots.{slots_by, keeps_itself, states_member, states_state}
 use Rattle.array_edits.proofs.Means.{Means, AtVolume, one_volume}
+use Rattle.array_edits.proofs.Idle.{words_of, pass_none, pass_stays, states_pass, states_words}
+use Rattle.array_edits.proofs.Moves.{IsServed}
 
 -- THE GENERATION
 
@@ -39,6 +41,7 @@ generation_means start f b g s small =
     let counted = s.counted in
     let bounds = s.bounds in
     let count = other_field b 5 8 bytes (λ e. omega arith) in
+    let served : (v : ℕ) → IsServed b v → IsServed c v = λ v is. served_header b c.header v s.is count is in
     record {
       sound = made_sound start b c s (record {
         header = set-lengths header_lengths b.header 5 bytes s.is.header refl;
@@ -51,13 +54,15 @@ generation_means start f b g s small =
         disk_count = s.is.disk_count ∙ sym count;
         volumes = volumes_stay b.volumes s.is.volumes;
       }) (omega (arith, count, counted.some_disk)) (omega (arith, count, counted.few_disks)) (omega (arith, count)) s.apart
-          (λ v started. served_header b c.header v s.is count (s.served v started));
+          (λ v started. served v (s.served v started));
+      served = served;
       volumes = volumes_stay b.volumes s.is.volumes;
       generation = ap number (get_or-set_same b.header 5 bytes [] (omega (arith, fields_of header_lengths b.header s.is.header))) ∙ number-four g small;
       dirty = λ v below. refl;
       past = λ v past. refl;
       expects = λ serial. refl;
-      slots = λ v started. slots_by f (TakesGeneration g) v b c (volume_at v b) (volume_at v b) refl (λ i inside. keeps_itself (slot_words b (member (volume_at v b) i)));
+      slots = λ v is. slots_by f (TakesGeneration g) v b c (volume_at v b) (volume_at v b) refl (λ i inside. keeps_itself (slot_words b (member (volume_at v b) i)));
+      pass = λ v is none. pass_none (volume_at v b) none;
       own = λ serial n expected own. own;
     }
 
@@ -134,6 +139,9 @@ migration_by v x state type good =
 pub dirty_good : (on : Bool) (v : Volume) → has_migration v ≡ true → has_migration (volume_with_dirty on v) ≡ true
 dirty_good on v good = migration_by v (volume_with_dirty on v) (other_state on v 2 (λ e. omega arith)) (other_state on v 3 (λ e. omega arith)) good
 
+dirty_pass : (on : Bool) (v : Volume) → has_pass (volume_with_dirty on v) ≡ has_pass v
+dirty_pass on v = ap (λ (n : ℕ). not (n == 0)) (other_state on v 2 (λ e. omega arith))
+
 -- THE STATES AFTER AN EDIT
 
 -- an edit that is followed by the states means what it means
@@ -150,7 +158,10 @@ stated f e b k broken h a =
       dirty = dirty_same x (with_states b broken x) (states_state b broken x) ∙ a.dirty;
       generation = a.generation;
       expects = a.expects;
+      pass = λ idle. subst (HasNoPass e k (pass_of v) (words_of b v)) (sym (states_words b b broken x a.steady.is))
+          (a.pass (sym (states_pass b broken x) ∙ idle));
       other_slot = a.other_slot;
+      other_pass = a.other_pass;
       other_dirty = a.other_dirty;
     }
 
@@ -171,10 +182,12 @@ dirty_means start f b k s started =
       migration = dirty_good true v;
       index = λ i inside. refl;
       slot = λ i inside. keeps_itself (slot_words b (member v i));
+      pass = λ idle. pass_none v (sym (dirty_pass true v) ∙ idle);
       dirty = dirty_is true v is ∙ sym (ap (λ (t : Bool). t || is_dirty v) (eq-eqb k k refl));
       generation = λ n. refl;
       expects = λ serial y. refl;
       other_slot = λ w other slot. keeps_itself slot;
+      other_pass = λ w other was ws none. none;
       other_dirty = λ w other u y. ap (λ (t : Bool). t || y) (other_number k w other);
     }))
 
@@ -190,10 +203,12 @@ clean_means start f b k s started =
       migration = dirty_good false v;
       index = λ i inside. refl;
       slot = λ i inside. keeps_itself (slot_words b (member v i));
+      pass = λ idle. pass_none v (sym (dirty_pass false v) ∙ idle);
       dirty = dirty_is false v is ∙ sym (ap (λ (t : Bool). not t && is_dirty v) (eq-eqb k k refl));
       generation = λ n. refl;
       expects = λ serial y. refl;
       other_slot = λ w other slot. keeps_itself slot;
+      other_pass = λ w other was ws none. none;
       other_dirty = λ w other u y. ap (λ (t : Bool). not t && y) (other_number k w other);
     }))
 
@@ -209,10 +224,12 @@ unit_means start f b k unit s started =
       migration = point_good unit v is;
       index = λ i inside. refl;
       slot = λ i inside. keeps_itself (slot_words b (member v i));
+      pass = λ idle. pass_none v (sym (pass_stays (migration_type_of v) unit v) ∙ idle);
       dirty = pass_dirty (migration_type_of v) unit v;
       generation = λ n. refl;
       expects = λ serial y. refl;
       other_slot = λ w other slot. keeps_itself slot;
+      other_pass = λ w other was ws none. none;
       other_dirty = λ w other u y. refl;
     }))
 
@@ -229,9 +246,11 @@ name_means start f b k name s below =
       migration = λ good. good;
       index = λ i inside. refl;
       slot = λ i inside. keeps_itself (slot_words b (member v i));
+      pass = λ idle. pass_none v idle;
       dirty = refl;
       generation = λ n. refl;
       expects = λ serial y. refl;
       other_slot = λ w other slot. keeps_itself slot;
+      other_pass = λ w other was ws none. none;
       other_dirty = λ w other u y. refl;
     })

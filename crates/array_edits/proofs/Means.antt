@@ -1,10 +1,10 @@
 -- What an edit of the parts of a block means, and the edits that change one volume.
-use Rattle.std.proofs.Common.{◌≡◌, ◌≢◌, ℕ, zero, suc, ◌≤◌, ◌<◌, inl, inr, Bool, true, false, List, [], ◌∷◌, length, map, get_or, refl, sym, ◌∙◌, ap, subst, arith}
+use Rattle.std.proofs.Common.{◌≡◌, ◌≢◌, ℕ, zero, suc, ◌≤◌, ◌<◌, inl, inr, Bool, true, false, List, [], ◌∷◌, length, map, get_or, refl, sym, ◌∙◌, ap, subst, arith, Option, None}
 use Rattle.std.specs.Option.{IsSomeAnd}
 use Rattle.std.specs.List.{AllByRecursion, AllZip}
 use Rattle.std.proofs.lemmas.Bool.{cases_eq}
 use Rattle.imsm_base.specs.Layout.{Block, Volume, IsVolume, generation_of, total_blocks_of, member_count_of}
-use Rattle.imsm_base.specs.Volumes.{first_map, member, members, has_migration, is_dirty, is_unfinished}
+use Rattle.imsm_base.specs.Volumes.{first_map, member, members, has_migration, is_dirty, is_unfinished, has_pass, pass_of}
 use Rattle.imsm_base.specs.Whole.{expected_serials, own_record}
 use Rattle.imsm_base.specs.EditsOfTables.{changed_at, with_volume}
 use Rattle.imsm_codec.specs.Mpb.{volume_at, blank_volume}
@@ -13,11 +13,12 @@ use Rattle.array_model.specs.Blocks.{SlotWords}
 use Rattle.array_model.specs.Start.{Start}
 use Rattle.block_meaning.specs.Meaning.{has_serial, slot_words}
 use Rattle.array_machine.specs.Setting.{Facts, Edit}
-use Rattle.array_machine.specs.EditWords.{generation_after, dirty_after, expects_after, SlotAfter, SlotsAfter}
+use Rattle.array_machine.specs.EditWords.{generation_after, dirty_after, expects_after, SlotAfter, SlotsAfter, HasNoPass}
 use Rattle.array_edits.proofs.Steady.{Steady, steady_itself}
-use Rattle.array_edits.proofs.Moves.{moves_none, served_moved, index_at, slots_at}
+use Rattle.array_edits.proofs.Moves.{IsServed, moves_none, served_moved, index_at, slots_at}
 use Rattle.array_edits.proofs.Sound.{IsSound, made_sound}
 use Rattle.array_edits.proofs.Slots.{slots_by}
+use Rattle.array_edits.proofs.Idle.{words_of, pass_none}
 
 -- an expected disk keeps a record that asks for no more sectors than so many
 abbrev pub KeepsOwn : Block → Block → Type 0
@@ -32,7 +33,9 @@ pub record Means (start : Start) (f : Facts) (e : Edit) (b c : Block) : Type 0 w
   pub dirty : (v : ℕ) → v < length b.volumes → is_dirty (volume_at v c) ≡ dirty_after e v (is_unfinished (volume_at v b)) (is_dirty (volume_at v b))
   pub past : (v : ℕ) → length b.volumes ≤ v → dirty_after e v false false ≡ false
   pub expects : (serial : List ℕ) → has_serial (expected_serials c) serial ≡ expects_after e serial (has_serial (expected_serials b) serial)
-  pub slots : (v : ℕ) → start.is_started v ≡ true → SlotsAfter f e v (map (slot_words b) (members (volume_at v b))) (map (slot_words c) (members (volume_at v c)))
+  pub served : (v : ℕ) → IsServed b v → IsServed c v
+  pub slots : (v : ℕ) → IsServed b v → SlotsAfter f e v (map (slot_words b) (members (volume_at v b))) (map (slot_words c) (members (volume_at v c)))
+  pub pass : (v : ℕ) → IsServed b v → has_pass (volume_at v c) ≡ false → HasNoPass e v (pass_of (volume_at v b)) (words_of b (volume_at v b)) (words_of c (volume_at v c))
   pub own : KeepsOwn b c
 
 -- ONE VOLUME
@@ -60,10 +63,12 @@ pub record AtVolume (f : Facts) (e : Edit) (b : Block) (k : ℕ) (g : Volume →
   pub migration : has_migration (volume_at k b) ≡ true → has_migration (g (volume_at k b)) ≡ true
   pub index : (s : ℕ) → s < slots_at b k → (member (g (volume_at k b)) s).index ≡ index_at b k s
   pub slot : (s : ℕ) → s < slots_at b k → SlotAfter f e k (slot_words b (member (volume_at k b) s)) (slot_words b (member (g (volume_at k b)) s))
+  pub pass : has_pass (g (volume_at k b)) ≡ false → HasNoPass e k (pass_of (volume_at k b)) (words_of b (volume_at k b)) (words_of b (g (volume_at k b)))
   pub dirty : is_dirty (g (volume_at k b)) ≡ dirty_after e k (is_unfinished (volume_at k b)) (is_dirty (volume_at k b))
   pub generation : (n : ℕ) → generation_after e n ≡ n
   pub expects : (serial : List ℕ) (y : Bool) → expects_after e serial y ≡ y
   pub other_slot : (v : ℕ) → v ≢ k → (w : SlotWords) → SlotAfter f e v w w
+  pub other_pass : (v : ℕ) → v ≢ k → (was : Option ℕ) (ws : List SlotWords) → was ≡ None → HasNoPass e v was ws ws
   pub other_dirty : (v : ℕ) → v ≢ k → (u y : Bool) → dirty_after e v u y ≡ y
 
 -- by whether a volume is the one
@@ -89,6 +94,8 @@ one_volume start f e b k g s a =
     by_case k v (has_migration (volume_at v c) ≡ true)
     (λ same. ap (λ (w : ℕ). has_migration (volume_at w c)) same ∙ ap has_migration here ∙ a.migration (ap (λ (w : ℕ). has_migration (volume_at w b)) (sym same) ∙ good))
     (λ other. ap has_migration (there v other) ∙ good) in
+    let served : (v : ℕ) → IsServed b v → IsServed c v = λ v is.
+    served_moved b c v zip (moves_none b c v is.below refl (λ i n has. has) index (migration v)) is in
     record {
       sound = made_sound start b c s (record {
         header = s.is.header;
@@ -101,7 +108,8 @@ one_volume start f e b k g s a =
         disk_count = s.is.disk_count;
         volumes = zip;
       }) counted.some_disk counted.few_disks (omega arith) s.apart
-          (λ v started. served_moved b c v zip (moves_none b c v (s.served v started).below refl (λ i n has. has) index (migration v)) (s.served v started));
+          (λ v started. served v (s.served v started));
+      served = served;
       volumes = zip;
       generation = sym (a.generation (generation_of b));
       dirty = λ v below. by_case k v (is_dirty (volume_at v c) ≡ dirty_after e v (is_unfinished (volume_at v b)) (is_dirty (volume_at v b)))
@@ -109,11 +117,17 @@ one_volume start f e b k g s a =
           (λ other. ap is_dirty (there v other) ∙ sym (a.other_dirty v other (is_unfinished (volume_at v b)) (is_dirty (volume_at v b))));
       past = λ v past. let below = a.below in a.other_dirty v (λ same. omega arith) false false;
       expects = λ serial. sym (a.expects serial (has_serial (expected_serials b) serial));
-      slots = λ v started. by_case k v (SlotsAfter f e v (map (slot_words b) (members (volume_at v b))) (map (slot_words c) (members (volume_at v c))))
+      slots = λ v is. by_case k v (SlotsAfter f e v (map (slot_words b) (members (volume_at v b))) (map (slot_words c) (members (volume_at v c))))
           (λ same. subst (λ (w : ℕ). SlotsAfter f e w (map (slot_words b) (members (volume_at w b))) (map (slot_words c) (members (volume_at w c)))) (sym same)
           (slots_by f e k b c (volume_at k b) (volume_at k c) (ap (λ (x : Volume). member_count_of (first_map x)) here ∙ a.steady.first.count)
           (λ i inside. subst (λ (x : Volume). SlotAfter f e k (slot_words b (member (volume_at k b) i)) (slot_words b (member x i))) (sym here) (a.slot i inside))))
           (λ other. slots_by f e v b c (volume_at v b) (volume_at v c) (ap (λ (x : Volume). member_count_of (first_map x)) (there v other))
           (λ i inside. subst (λ (x : Volume). SlotAfter f e v (slot_words b (member (volume_at v b) i)) (slot_words b (member x i))) (sym (there v other)) (a.other_slot v other (slot_words b (member (volume_at v b) i)))));
+      pass = λ v is none. by_case k v (HasNoPass e v (pass_of (volume_at v b)) (words_of b (volume_at v b)) (words_of c (volume_at v c)))
+          (λ same. subst (λ (w : ℕ). HasNoPass e w (pass_of (volume_at w b)) (words_of b (volume_at w b)) (words_of c (volume_at w c))) (sym same)
+          (subst (λ (x : Volume). HasNoPass e k (pass_of (volume_at k b)) (words_of b (volume_at k b)) (words_of b x)) (sym here)
+          (a.pass (ap has_pass (sym here) ∙ ap (λ (w : ℕ). has_pass (volume_at w c)) (sym same) ∙ none))))
+          (λ other. subst (λ (x : Volume). HasNoPass e v (pass_of (volume_at v b)) (words_of b (volume_at v b)) (words_of b x)) (sym (there v other))
+          (a.other_pass v other (pass_of (volume_at v b)) (words_of b (volume_at v b)) (pass_none (volume_at v b) (ap has_pass (sym (there v other)) ∙ none))));
       own = λ serial n expected own. own;
     }

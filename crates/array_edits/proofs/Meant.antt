@@ -1,5 +1,5 @@
 -- The edits of real blocks mean what the machine takes them to mean.
-use Rattle.std.proofs.Common.{◌≡◌, ℕ, ◌+◌, ◌≤◌, ◌<◌, ◌==◌, not, Bool, true, false, List, [], ◌++◌, length, map, Option, refl, sym, ◌∙◌, ap, subst, inl, inr, arith}
+use Rattle.std.proofs.Common.{◌≡◌, ℕ, ◌+◌, ◌≤◌, ◌<◌, ◌==◌, not, Bool, true, false, List, [], ◌++◌, length, map, Option, refl, sym, ◌∙◌, ap, subst, inl, inr, arith, None}
 use Rattle.std.specs.Prelude.{flat_map, nat_le, nat_lt, sum_by}
 use Rattle.std.specs.Option.{option_map_or}
 use Rattle.std.specs.List.{list_any, AllZip}
@@ -11,7 +11,7 @@ use Rattle.std.proofs.lemmas.Option.{slice_get-get_or, slice_get_past}
 use Rattle.units.specs.declared.disk.Sector.{Sector}
 use Rattle.imsm_base.specs.Fields.{number_at}
 use Rattle.imsm_base.specs.Layout.{Block, Volume, size_of, serial_of, disk_count_of, generation_of, volume_size_of, pba_of, strip_of, level_byte_of, member_count_of, bytes_of}
-use Rattle.imsm_base.specs.Volumes.{Member, first_map, member, members, is_dirty, is_unfinished, level_of, second_map_bytes}
+use Rattle.imsm_base.specs.Volumes.{Member, first_map, member, members, is_dirty, is_unfinished, level_of, second_map_bytes, pass_of}
 use Rattle.imsm_base.specs.Edits.{block_sealed, block_with_size}
 use Rattle.imsm_base.proofs.Edited.{other_field}
 use Rattle.imsm_base.proofs.Spliced.{number_at-take, number_at-front}
@@ -26,7 +26,7 @@ use Rattle.array_model.specs.Start.{Start}
 use Rattle.block_meaning.specs.Meaning.{bytes_of_laid, has_index, has_place, is_small, of_volume, shape_of, no_shape, slot_words, SaysBlock}
 use Rattle.block_meaning.specs.Reading.{parts_of}
 use Rattle.array_machine.specs.Setting.{Facts, Edit, TakesGeneration, FailsDisk, CountsOut, MakesDirty, MakesClean, RecordsUnit, ClosesPass, StartsVolume, ActivatesDisk, RemovesDisk, NamesVolume, Setting}
-use Rattle.array_machine.specs.EditWords.{generation_after, dirty_after, expects_after, SlotsAfter, IsOfDisk, IsApt, EditsMean}
+use Rattle.array_machine.specs.EditWords.{generation_after, dirty_after, expects_after, SlotsAfter, IsOfDisk, IsApt, EditsMean, HasNoPass}
 use Rattle.array_edits.specs.Records.{activated_record}
 use Rattle.array_edits.specs.RealEdits.{sectors_of, block_edited}
 use Rattle.array_edits.specs.Formed.{is_formed}
@@ -35,7 +35,7 @@ use Rattle.array_edits.proofs.Laid.{IsLaidOf, laid-is, size_is, generation_is}
 use Rattle.array_edits.proofs.Steady.{Steady}
 use Rattle.array_edits.proofs.Supports.{any_fails}
 use Rattle.array_edits.proofs.Moves.{IsServed, steady_at, index_at, slots_at}
-use Rattle.array_edits.proofs.Sound.{IsSound, IsGood, formed_good, sound_formed, unsealed}
+use Rattle.array_edits.proofs.Sound.{IsGood, formed_good, sound_formed, unsealed, served_by, by_served, sealed_served}
 use Rattle.array_edits.proofs.Means.{Means}
 use Rattle.array_edits.proofs.Marks.{generation_means, dirty_means, clean_means, unit_means, name_means}
 use Rattle.array_edits.proofs.Closes.{close_means}
@@ -45,6 +45,7 @@ use Rattle.array_edits.proofs.Added.{new_expected, new_lengths}
 use Rattle.array_edits.proofs.Spares.{HasRoom}
 use Rattle.array_edits.proofs.Activates.{activation_means}
 use Rattle.array_edits.proofs.Leaves.{removal_means}
+use Rattle.array_edits.proofs.Idle.{idle_none}
 
 -- THE WORDS OF A BLOCK OF THE FORM
 
@@ -143,6 +144,19 @@ edited S f m e r formed apt =
 pub says_edited : (S : Setting) (f : Facts) (m : Laid) (e : Edit) → IsReal S → (d : Edited S f m e) → SaysBlock S.start.words (S.edit f m e) (block_sealed (block_edited S.start f (parts_of m) e) d.laid.size d.laid.sum)
 says_edited S f m e r d = r.reads.says (S.edit f m e) _ d.laid.whole
 
+-- a supported volume, by the word and by the parts
+word_served : (S : Setting) (m : Laid) (v : ℕ) → IsReal S → is_formed S.start m ≡ true → S.start.words.is_supported m v ≡ true → IsServed (parts_of m) v
+word_served S m v r formed is = served_by (parts_of m) v (sym ((says S m r formed).is_supported v) ∙ is)
+
+served_word : (S : Setting) (m : Laid) (v : ℕ) → IsReal S → is_formed S.start m ≡ true → IsServed (parts_of m) v → S.start.words.is_supported m v ≡ true
+served_word S m v r formed served = (says S m r formed).is_supported v ∙ by_served (parts_of m) v served
+
+served_edited : (S : Setting) (f : Facts) (m : Laid) (e : Edit) (v : ℕ) → IsReal S → (d : Edited S f m e) → IsServed (block_edited S.start f (parts_of m) e) v → S.start.words.is_supported (S.edit f m e) v ≡ true
+served_edited S f m e v r d served =
+    let c : Block = block_edited S.start f (parts_of m) e in
+    (says_edited S f m e r d).is_supported v
+    ∙ by_served (block_sealed c d.laid.size d.laid.sum) v (sealed_served c d.laid.size d.laid.sum v d.means.sound.is served)
+
 -- a word of a volume that is there, or not
 volume_word : {X : Type 0} (b : Block) (v : ℕ) (word : Volume → X) (none : X) → v < length b.volumes → of_volume b v word none ≡ word (volume_at v b)
 volume_word b v word none below = ap (λ (o : Option Volume). option_map_or word o none) (slice_get-get_or b.volumes v blank_volume below)
@@ -188,12 +202,11 @@ dirty_of start f e b c v t = elim (cases_lt v (length b.volumes)) [
 abbrev words_in : Block → Volume → List SlotWords
 words_in b x = map (slot_words b) (members x)
 
-slots_of : (start : Start) (f : Facts) (e : Edit) (b c : Block) (v : ℕ) → IsSound start b → start.is_started v ≡ true → Means start f e b c → SlotsAfter f e v (of_volume b v (words_in b) []) (of_volume c v (words_in c) [])
-slots_of start f e b c v s started t =
-    let served : IsServed b v = s.served v started in
+slots_of : (start : Start) (f : Facts) (e : Edit) (b c : Block) (v : ℕ) → IsServed b v → Means start f e b c → SlotsAfter f e v (of_volume b v (words_in b) []) (of_volume c v (words_in c) [])
+slots_of start f e b c v served t =
     let below : v < length b.volumes = served.below in
     subst (λ (ws : List SlotWords). SlotsAfter f e v ws (of_volume c v (words_in c) [])) (sym (volume_word b v (words_in b) [] below))
-    (subst (SlotsAfter f e v (words_in b (volume_at v b))) (sym (volume_word c v (words_in c) [] (omega (arith, length_all_zip Steady b.volumes c.volumes t.volumes)))) (t.slots v started))
+    (subst (SlotsAfter f e v (words_in b (volume_at v b))) (sym (volume_word c v (words_in c) [] (omega (arith, length_all_zip Steady b.volumes c.volumes t.volumes)))) (t.slots v served))
 
 sealed_generation : (c : Block) (size sum : ℕ) → generation_of (block_sealed c size sum) ≡ generation_of c
 sealed_generation c size sum =
@@ -228,11 +241,29 @@ real_edits_mean S r = record {
       (says_edited S f m e r d).is_dirty v ∙ dirty_of S.start f e (parts_of m) (block_edited S.start f (parts_of m) e) v d.means
       ∙ ap (λ (u : Bool). dirty_after e v u (of_volume (parts_of m) v is_dirty false)) (sym (w.is_unfinished v)) ∙ ap (dirty_after e v (S.start.words.is_unfinished m v)) (sym (w.is_dirty v));
   expects = λ f m e serial apt formed. expects_edited S f m e serial r formed apt;
-  slots = λ f m e v apt formed started.
+  served = λ m v formed started. served_word S m v r formed ((good S m r formed).sound.served v started);
+  supported = λ f m e v apt formed is.
+      let d : Edited S f m e = edited S f m e r formed apt in
+      served_edited S f m e v r d (d.means.served v (word_served S m v r formed is));
+  slots = λ f m e v apt formed is.
       let d : Edited S f m e = edited S f m e r formed apt in
       subst (λ (ws : List SlotWords). SlotsAfter f e v ws (S.start.words.slots (S.edit f m e) v)) (sym ((says S m r formed).slots v))
       (subst (SlotsAfter f e v (of_volume (parts_of m) v (words_in (parts_of m)) [])) (sym ((says_edited S f m e r d).slots v))
-      (slots_of S.start f e (parts_of m) (block_edited S.start f (parts_of m) e) v (good S m r formed).sound started d.means));
+      (slots_of S.start f e (parts_of m) (block_edited S.start f (parts_of m) e) v (word_served S m v r formed is) d.means));
+  pass = λ f m e v apt formed started none.
+      let d : Edited S f m e = edited S f m e r formed apt in
+      let b : Block = parts_of m in
+      let c : Block = block_edited S.start f b e in
+      let served : IsServed b v = (good S m r formed).sound.served v started in
+      let after : IsServed c v = d.means.served v served in
+      let old : S.start.words.slots m v ≡ words_in b (volume_at v b) = (says S m r formed).slots v ∙ volume_word b v (words_in b) [] served.below in
+      let new : S.start.words.slots (S.edit f m e) v ≡ words_in c (volume_at v c) = (says_edited S f m e r d).slots v ∙ volume_word c v (words_in c) [] after.below in
+      let was : S.start.words.pass m v ≡ pass_of (volume_at v b) = (says S m r formed).pass v ∙ volume_word b v pass_of None served.below in
+      let is : S.start.words.pass (S.edit f m e) v ≡ pass_of (volume_at v c) = (says_edited S f m e r d).pass v ∙ volume_word c v pass_of None after.below in
+      subst (λ (p : Option ℕ). HasNoPass e v p (S.start.words.slots m v) (S.start.words.slots (S.edit f m e) v)) (sym was)
+      (subst (λ (ws : List SlotWords). HasNoPass e v (pass_of (volume_at v b)) ws (S.start.words.slots (S.edit f m e) v)) (sym old)
+      (subst (HasNoPass e v (pass_of (volume_at v b)) (words_in b (volume_at v b))) (sym new)
+      (d.means.pass v served (idle_none (volume_at v c) (sym is ∙ none)))));
 }
 
 -- the form is that of the test

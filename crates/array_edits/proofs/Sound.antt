@@ -55,7 +55,7 @@ unsealed start b s =
 
 -- FROM THE TEST
 
-served_by : (b : Block) (v : ℕ) → of_volume b v (λ x. is_none (volume_fault b v x)) false ≡ true → IsServed b v
+pub served_by : (b : Block) (v : ℕ) → of_volume b v (λ x. is_none (volume_fault b v x)) false ≡ true → IsServed b v
 served_by b v test =
     elim (cases_lt v (length b.volumes)) [
       | inl below ↦ record {
@@ -132,9 +132,13 @@ sealed_count b size sum =
     other_field (record b { header = set b.header 3 (little_bytes 4 size) }) 2 8 (little_bytes 4 sum) (λ e. omega arith)
     ∙ other_field b 3 8 (little_bytes 4 size) (λ e. omega arith)
 
+-- a seal leaves its volumes supported
+pub sealed_served : (b : Block) (size sum v : ℕ) → IsBlock b → IsServed b v → IsServed (block_sealed b size sum) v
+sealed_served b size sum v is served = served_header b (block_sealed b size sum).header v is (sealed_count b size sum) served
+
 -- TO THE TEST
 
-by_served : (b : Block) (v : ℕ) → IsServed b v → of_volume b v (λ x. is_none (volume_fault b v x)) false ≡ true
+pub by_served : (b : Block) (v : ℕ) → IsServed b v → of_volume b v (λ x. is_none (volume_fault b v x)) false ≡ true
 by_served b v s =
     ap (λ (o : Option Volume). option_map_or (λ x. is_none (volume_fault b v x)) o false) (slice_get-get_or b.volumes v blank_volume s.below)
     ∙ ap (λ (o : Option Fault). is_none o) s.supported

@@ -2,7 +2,7 @@
 use Rattle.std.proofs.Common.{◌≡◌, ℕ, ◌+◌, ◌*◌, ◌/◌, ◌%◌, ◌^◌, ◌≤◌, ◌<◌, ◌==◌, ◌⊎◌, if◌then◌else◌, Bool, true, false, List, length, refl, sym, ◌∙◌, ap, subst, inl, inr, arith}
 use Rattle.std.specs.Prelude.{nat_le, sum_by}
 use Rattle.std.specs.List.{AllZip}
-use Rattle.std.proofs.lemmas.Bool.{eqb-true}
+use Rattle.std.proofs.lemmas.Bool.{eqb-true, false≢true}
 use Rattle.byteorder.specs.Endian.{little_bytes}
 use Rattle.imsm_base.specs.Fields.{Part, number}
 use Rattle.imsm_base.specs.Layout.{Block, Volume, HasLengths, IsVolume, disk_lengths, serial_of, total_blocks_of, disk_count_of, migration_type_of, member_count_of, bytes_of}
@@ -27,6 +27,7 @@ use Rattle.array_edits.proofs.Starts.{opened_pass, opened_dirty}
 use Rattle.array_edits.proofs.Entries.{entry_of, index_each, index_of_entry, bit_of, out_set, out_stays, at_each}
 use Rattle.array_edits.proofs.Added.{added_last, added_sectors, IsUnknown}
 use Rattle.array_edits.proofs.Wide.{each_steady}
+use Rattle.array_edits.proofs.Idle.{states_pass, pass_stays}
 
 -- AN ENTRY
 
@@ -54,10 +55,11 @@ pub record Gives (b : Block) (i n : ℕ) (disk : Part) (v x : Volume) : Type 0 w
   pub steady : Steady v x
   pub migration : has_migration v ≡ true → has_migration x ≡ true
   pub dirty : is_dirty x ≡ is_dirty v
+  pub idle : has_pass x ≡ false → (has_pass v ≡ false) × ((s : ℕ) → s < member_count_of (first_map v) → IsLeft v x s)
   pub slot : (s : ℕ) → s < member_count_of (first_map v) → IsLeft v x s ⊎ IsTaken b i n disk v x s
 
 pub gives_none : (b : Block) (i n : ℕ) (disk : Part) (v : Volume) → IsVolume v → Gives b i n disk v v
-gives_none b i n disk v is = record { steady = steady_itself v is; migration = λ good. good; dirty = refl; slot = λ s below. inl (record { index = refl; out = refl }) }
+gives_none b i n disk v is = record { steady = steady_itself v is; migration = λ good. good; dirty = refl; idle = λ none. (none, λ s below. record { index = refl; out = refl }); slot = λ s below. inl (record { index = refl; out = refl }) }
 
 -- the slots of a volume that takes the spare
 given_slot : (b : Block) (i n : ℕ) (disk : Part) (v : Volume) (s : ℕ) → n < 2 ^ 24 → IsVolume v → has_sectors_for v disk ≡ true → is_expected_at b i ≡ false → s < member_count_of (first_map v) →
@@ -111,6 +113,7 @@ gives_rebuilt b c i n disk v small is like room failed =
       steady = steady_then v x (with_states c false x) three (states_steady c false x three.is);
       migration = λ good. migration_same x (with_states c false x) (states_state c false x) (pass_good kind 0 w two.is (opened_pass y one.is) (given_kind v (has_pass v) refl good));
       dirty = dirty_same x (with_states c false x) (states_state c false x) ∙ pass_dirty kind 0 w ∙ opened_dirty y;
+      idle = λ none. absurd (false≢true (sym none ∙ states_pass c false x ∙ pass_stays kind 0 w ∙ opened_pass y one.is));
       slot = λ s below.
           same_member b i n disk v y (with_states c false x) s (states_member c false x s ∙ opened_member y s one.is (subst (λ (k : ℕ). s < k) (sym one.first.count) below))
           (given_slot b i n disk v s small is room failed below);

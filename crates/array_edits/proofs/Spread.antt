@@ -14,7 +14,7 @@ use Rattle.imsm_edit.specs.Slots.{changed_each}
 use Rattle.imsm_edit.specs.Failures.{without_member}
 use Rattle.array_model.specs.Start.{Start}
 use Rattle.array_edits.proofs.Steady.{Steady, steady_itself, steady_then}
-use Rattle.array_edits.proofs.Moves.{SameSectors, moves_none, served_moved}
+use Rattle.array_edits.proofs.Moves.{IsServed, SameSectors, moves_none, served_moved}
 use Rattle.array_edits.proofs.Sound.{IsSound, made_sound}
 use Rattle.array_edits.proofs.Entries.{at_each}
 use Rattle.array_edits.proofs.Wide.{each_steady, without_steady, without_index, Settles}
@@ -71,6 +71,15 @@ spread_at b c h k p below = ap (λ (vs : List Volume). get_or vs k blank_volume)
 pub spread_steady : (b c : Block) (h : ℕ → Volume → Volume) → Spreads b c h → AllZip Steady b.volumes c.volumes
 spread_steady b c h p = subst (AllZip Steady b.volumes) (sym p.volumes) (each_steady h b.volumes (λ k below. (p.stay k below).steady))
 
+pub spread_served : (start : Start) (b c : Block) (h : ℕ → Volume → Volume) → IsSound start b → Spreads b c h → SameSectors b c → (v : ℕ) → IsServed b v → IsServed c v
+spread_served start b c h s p sectors v is =
+    let zip : AllZip Steady b.volumes c.volumes = spread_steady b c h p in
+    served_moved b c v zip
+    (moves_none b c v is.below (ap (number_in 8) p.header) sectors
+    (λ o t there inside. ap (λ (x : Volume). (member x t).index) (spread_at b c h o p there) ∙ (p.stay o there).index t inside)
+    (λ good. ap has_migration (spread_at b c h v p is.below) ∙ (p.stay v is.below).migration good))
+    is
+
 pub spread_sound : (start : Start) (b c : Block) (h : ℕ → Volume → Volume) → IsSound start b → Spreads b c h → SameSectors b c → AreApart (expected_serials c) → IsSound start c
 spread_sound start b c h s p sectors apart =
     let counted = s.counted in
@@ -89,8 +98,4 @@ spread_sound start b c h s p sectors apart =
       disk_count = p.count ∙ s.is.disk_count ∙ sym count;
       volumes = zip;
     }) (omega (arith, count, counted.some_disk)) (omega (arith, count, counted.few_disks)) (omega (arith, count)) apart
-    (λ v started. served_moved b c v zip
-    (moves_none b c v (s.served v started).below count sectors
-    (λ o t there inside. ap (λ (x : Volume). (member x t).index) (spread_at b c h o p there) ∙ (p.stay o there).index t inside)
-    (λ good. ap has_migration (spread_at b c h v p (s.served v started).below) ∙ (p.stay v (s.served v started).below).migration good))
-    (s.served v started))
+    (λ v started. spread_served start b c h s p sectors v (s.served v started))

@@ -1,7 +1,7 @@
 -- A volume that starts: its slots stay, and an unfinished one is clean.
-use Rattle.std.proofs.Common.{◌≡◌, ℕ, ◌/◌, ◌<◌, ◌==◌, ◌&&◌, ◌||◌, not, if◌then◌else◌, Bool, true, false, List, [], ◌∷◌, length, refl, sym, ◌∙◌, ap, arith}
+use Rattle.std.proofs.Common.{◌≡◌, ℕ, ◌/◌, ◌<◌, ◌==◌, ◌&&◌, ◌||◌, not, if◌then◌else◌, Bool, true, false, List, [], ◌∷◌, length, refl, sym, ◌∙◌, ap, arith, inl, inr}
 use Rattle.std.specs.Int.{bit_at}
-use Rattle.std.proofs.lemmas.Bool.{eq-eqb}
+use Rattle.std.proofs.lemmas.Bool.{eq-eqb, false≢true}
 use Rattle.std.proofs.lemmas.List.{get_or-set_other}
 use Rattle.byteorder.specs.Endian.{little_bytes}
 use Rattle.imsm_base.specs.Fields.{number}
@@ -18,7 +18,7 @@ use Rattle.imsm_view.proofs.Members.{length_members, member_here, blank}
 use Rattle.array_model.specs.Start.{Start}
 use Rattle.block_meaning.specs.Meaning.{slot_words}
 use Rattle.array_machine.specs.Setting.{Facts, StartsVolume}
-use Rattle.array_machine.specs.EditWords.{KeepsSlot}
+use Rattle.array_machine.specs.EditWords.{KeepsSlot, NeedsNoRebuild}
 use Rattle.array_edits.specs.RealEdits.{block_edited}
 use Rattle.array_edits.proofs.Steady.{IsAlike, Steady, steady_itself, steady_then, closed_steady, has_maps}
 use Rattle.array_edits.proofs.Steps.{if_either, dirty_steady, pass_steady, migration_steady, with_pass_steady}
@@ -28,6 +28,8 @@ use Rattle.array_edits.proofs.Slots.{keeps_itself, kept_as, if_same, opened_memb
 use Rattle.array_edits.proofs.Means.{Means, one_volume}
 use Rattle.array_edits.proofs.Marks.{volume_is, is_kind, dirty_is, pass_good, pass_dirty, stated, other_number}
 use Rattle.array_edits.proofs.Closes.{closed_good, closed_dirty, alike_served}
+use Rattle.std.specs.List.{AllByRecursion}
+use Rattle.array_edits.proofs.Idle.{words_of, pass_stays, whole_words}
 
 -- ONE OF FOUR
 
@@ -37,13 +39,13 @@ resynced v = volume_with_pass (resync_type v) (pass_start v / 128) (volume_with_
 
 -- what holds of each way that a volume may start
 pub each_start : (P : Volume → Type 0) (b : Block) (v : Volume) → (is_unfinished v ≡ true → P (resynced v)) → (is_unfinished v ≡ false → P (with_pass 1 (pass_start v / 128) v)) →
-    (is_unfinished v ≡ false → has_to_rebuild b v ≡ false → P (volume_without_migration v)) → (is_unfinished v ≡ false → has_pass v ≡ false → P v) → P (with_start b v)
+    (is_unfinished v ≡ false → has_to_rebuild b v ≡ false → P (volume_without_migration v)) → (is_unfinished v ≡ false → has_to_rebuild b v ≡ false → has_pass v ≡ false → P v) → P (with_start b v)
 each_start P b v resync rebuild close idle =
     let rest : Volume = if has_pass v then volume_without_migration v else v in
     let again : Volume = if has_to_rebuild b v then with_pass 1 (pass_start v / 128) v else rest in
     if_either P (is_unfinished v) (resynced v) again resync
     (λ finished. if_either P (has_to_rebuild b v) (with_pass 1 (pass_start v / 128) v) rest (λ e. rebuild finished)
-    (λ whole. if_either P (has_pass v) (volume_without_migration v) v (λ e. close finished whole) (λ e. idle finished e)))
+    (λ whole. if_either P (has_pass v) (volume_without_migration v) v (λ e. close finished whole) (λ e. idle finished whole e)))
 
 -- WHERE IT LIES
 
@@ -57,7 +59,7 @@ start_steady b v is like =
     let one : Steady v w = migration_steady v is like in
     let two : Steady v x = steady_then v w x one (dirty_steady false w one.is) in
     each_start (Steady v) b v (λ e. steady_then v x (resynced v) two (pass_steady (resync_type v) (pass_start v / 128) x two.is))
-    (λ e. with_pass_steady 1 (pass_start v / 128) v is like) (λ e f. closed_steady v is like) (λ e f. steady_itself v is)
+    (λ e. with_pass_steady 1 (pass_start v / 128) v is like) (λ e f. closed_steady v is like) (λ e f g. steady_itself v is)
 
 resync_kind : (t : Bool) → is_kind (if t then 0 else 5) ≡ true
 resync_kind true = refl
@@ -72,7 +74,7 @@ start_good b v is like good =
     let unit : ℕ = pass_start v / 128 in
     each_start (λ y. has_migration y ≡ true) b v
     (λ e. pass_good (resync_type v) unit x two.is (ap (λ (n : ℕ). not (n == 0)) (other_state false w 2 (λ f. omega arith)) ∙ opened_pass v is) (resync_kind (map_state_of (first_map v) == 1 || has_pass_of (0 ∷ []) v)))
-    (λ e. pass_good 1 unit w one.is (opened_pass v is) refl) (λ e f. closed_good v is) (λ e f. good)
+    (λ e. pass_good 1 unit w one.is (opened_pass v is) refl) (λ e f. closed_good v is) (λ e f g. good)
 
 -- ITS SLOTS
 
@@ -114,12 +116,12 @@ start_slot b v s is below =
     let same : member (with_migration v) s ≡ member v s = opened_member v s is below in
     each_start (λ y. KeepsSlot (slot_words b (member v s)) (slot_words b (member y s))) b v
     (λ e. kept_as b (member v s) (member (resynced v) s) same) (λ e. kept_as b (member v s) (member (with_pass 1 (pass_start v / 128) v) s) same)
-    (λ e whole. closed_slot b v s is below whole) (λ e f. keeps_itself (slot_words b (member v s)))
+    (λ e whole. closed_slot b v s is below whole) (λ e f g. keeps_itself (slot_words b (member v s)))
 
 start_index : (b : Block) (v : Volume) (s : ℕ) → IsVolume v → s < member_count_of (first_map v) → (member (with_start b v) s).index ≡ (member v s).index
 start_index b v s is below =
     let same : (member (with_migration v) s).index ≡ (member v s).index = ap (λ (m : Member). m.index) (opened_member v s is below) in
-    each_start (λ y. (member y s).index ≡ (member v s).index) b v (λ e. same) (λ e. same) (λ e f. refl) (λ e f. refl)
+    each_start (λ y. (member y s).index ≡ (member v s).index) b v (λ e. same) (λ e. same) (λ e f. refl) (λ e f g. refl)
 
 -- THE DIRTY BIT
 
@@ -145,7 +147,22 @@ start_dirty b k v is like =
     each_start (λ y. is_dirty y ≡ word) b v
     (λ e. said (k == k) (is_unfinished v) (is_dirty v) (eq-eqb k k refl) (is_dirty (resynced v)) (λ f. pass_dirty (resync_type v) unit (volume_with_dirty false w) ∙ dirty_is false w one.is) (λ f. absurd (cc f)))
     (λ e. finished (is_dirty (with_pass 1 unit v)) e (pass_dirty 1 unit w ∙ opened_dirty v))
-    (λ e f. finished (is_dirty (volume_without_migration v)) e (closed_dirty v)) (λ e f. finished (is_dirty v) e refl)
+    (λ e f. finished (is_dirty (volume_without_migration v)) e (closed_dirty v)) (λ e f g. finished (is_dirty v) e refl)
+
+-- ITS PASS
+
+-- where none is open behind it nothing is to be rebuilt
+start_idle : (b : Block) (v : Volume) → IsVolume v → has_pass (with_start b v) ≡ false → AllByRecursion NeedsNoRebuild (words_of b (with_start b v))
+start_idle b v is =
+    let w : Volume = with_migration v in
+    let unit : ℕ = pass_start v / 128 in
+    let open_one : has_pass w ≡ true = opened_pass v is in
+    let cleared : has_pass (volume_with_dirty false w) ≡ true = ap (λ (n : ℕ). not (n == 0)) (other_state false w 2 (λ f. omega arith)) ∙ open_one in
+    each_start (λ y. has_pass y ≡ false → AllByRecursion NeedsNoRebuild (words_of b y)) b v
+    (λ e idle. absurd (false≢true (sym idle ∙ pass_stays (resync_type v) unit (volume_with_dirty false w) ∙ cleared)))
+    (λ e idle. absurd (false≢true (sym idle ∙ pass_stays 1 unit w ∙ open_one)))
+    (λ e whole idle. whole_words b (volume_without_migration v) (λ s below expected. closed_in v s (has_maps v is).0 (rebuilds_none b v s below whole expected)))
+    (λ e whole none idle. whole_words b v (λ s below expected. rebuilds_none b v s below whole expected))
 
 -- THE EDIT
 
@@ -166,5 +183,7 @@ start_means start f b k s started =
       generation = λ n. refl;
       expects = λ serial x. refl;
       other_slot = λ w other slot. keeps_itself slot;
+      pass = λ idle. inr (start_idle b v is idle);
+      other_pass = λ w other was ws none. inl (none, other_number k w other);
       other_dirty = λ w other u x. ap (λ (t : Bool). not (t && u) && x) (other_number k w other);
     }))

@@ -1,5 +1,5 @@
 -- Edits that change each volume by its number, and what a failed disk or one that counts out leaves of a volume.
-use Rattle.std.proofs.Common.{◌≡◌, ℕ, suc, ◌<◌, ◌==◌, ◌&&◌, ◌||◌, not, Bool, true, false, List, [], ◌∷◌, length, get_or, None, refl, sym, ◌∙◌, ap, arith}
+use Rattle.std.proofs.Common.{◌≡◌, ℕ, suc, ◌<◌, ◌==◌, ◌&&◌, ◌||◌, not, Bool, true, false, List, [], ◌∷◌, length, get_or, None, refl, sym, ◌∙◌, ap, arith, ◌⊎◌, inl, inr}
 use Rattle.std.specs.Prelude.{is_none, Option}
 use Rattle.std.specs.List.{AllZip}
 use Rattle.imsm_base.specs.Layout.{Block, Volume, IsVolume, map_state_of, member_count_of}
@@ -20,6 +20,7 @@ use Rattle.array_edits.proofs.Marks.{migration_same, dirty_same, point_good, pas
 use Rattle.array_edits.proofs.Closes.{closed_good, closed_dirty}
 use Rattle.array_edits.proofs.Starts.{rebuilds_none}
 use Rattle.array_edits.proofs.Entries.{marked_index, marked_out}
+use Rattle.array_edits.proofs.Idle.{states_pass, pass_stays}
 
 -- each volume lies where it lay
 pub each_steady : (h : ℕ → Volume → Volume) (vs : List Volume) → ((k : ℕ) → k < length vs → Steady (get_or vs k blank_volume) (h k (get_or vs k blank_volume))) → AllZip Steady vs (changed_each h vs)
@@ -119,3 +120,24 @@ settles_out b broken v is =
     let z : Volume = begun_again v in
     let begun : Settles b v z = settles_begun b v is in
     if_either (Settles b v) (map_state_of (first_map v) == 1) z (with_states b broken z) (λ e. begun) (λ e. settles_states b b broken v z begun)
+
+-- ITS PASS
+
+-- A pass is closed only where nothing is to be rebuilt.
+pub failed_idle : (b : Block) (broken : Bool) (v : Volume) → has_pass (settled b broken v) ≡ false → (has_pass v ≡ false) ⊎ (has_to_rebuild b v ≡ false)
+failed_idle b broken v =
+    let z : Volume = without_idle_rebuild b v in
+    let Left : Volume → Type 0 = λ x. has_pass x ≡ false → (has_pass v ≡ false) ⊎ (has_to_rebuild b v ≡ false) in
+    let idle : Left z =
+    if_either Left (is_idle_rebuild b v) (volume_without_migration v) v
+    (λ e none. inr (idle_part (has_pass_of (1 ∷ []) v) (has_to_rebuild b v) e)) (λ e none. inl none) in
+    if_either Left (map_state_of (first_map v) == 1) z (with_states b broken z) (λ e. idle) (λ e none. idle (sym (states_pass b broken z) ∙ none))
+
+-- a disk that counts out closes none
+pub out_idle : (b : Block) (broken : Bool) (v : Volume) → has_pass (settled_out b broken v) ≡ false → has_pass v ≡ false
+out_idle b broken v =
+    let z : Volume = begun_again v in
+    let Left : Volume → Type 0 = λ x. has_pass x ≡ false → has_pass v ≡ false in
+    let idle : Left z =
+    if_either Left (has_pass v) (at_point 0 v) v (λ e none. sym (pass_stays _ 0 v) ∙ none) (λ e none. none) in
+    if_either Left (map_state_of (first_map v) == 1) z (with_states b broken z) (λ e. idle) (λ e none. idle (sym (states_pass b broken z) ∙ none))
