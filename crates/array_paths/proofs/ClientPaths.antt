@@ -1,22 +1,24 @@
 -- The turns of clients are paths: an operation is submitted, a job makes its next call, or it is answered.
 use Rattle.std.proofs.Common.{◌≡◌, ℕ, zero, suc, ◌+◌, ◌<◌, ◌||◌, ◌&&◌, Bool, true, false, cond, List, [], ◌∷◌, refl, ap, sym, ◌∙◌, subst, arith, Option, Some, None, ◌⊎◌, inl, inr}
+use Rattle.std.specs.Prelude.{⊤}
 use Rattle.device_log.specs.Log.{What, Read, Sync}
 use Rattle.array_model.specs.declared.script.OpKind.{OpKind}
 use Rattle.array_model.specs.declared.script.OpKind.TheVariants.{Write as OpWrite, Read as OpRead, Whole as OpWhole}
+use Rattle.array_model.specs.declared.journal.Answer.TheVariants.{Value}
 use Rattle.array_model.specs.Script.{kind_at}
 use Rattle.array_model.specs.Placement.{Placement}
 use Rattle.array_disks.specs.Calls.{RowCall, row_read, row_write, row_sync, IsBeforeMetadata, call_on}
 use Rattle.array_machine.specs.Setting.{Setting}
-use Rattle.array_machine.specs.Volumes.{Volume, volume_at, disk_in, has_disk, source_in}
-use Rattle.array_machine.specs.Operations.{volume_in, volume_of, shape_of, place_at, place_or, the_place, place_on}
+use Rattle.array_machine.specs.Volumes.{Member, Volume, volume_at, disk_in, has_disk, source_in}
+use Rattle.array_machine.specs.Operations.{volume_in, volume_of, shape_of, place_at, place_or, the_place, place_on, is_write}
 use Rattle.array_machine.specs.Clients.{Row, Job, NoJob, Submitted, Busy, Client, client_at, with_job}
-use Rattle.array_machine.specs.RowJobs.{Need, NoNeed, Reads, Writes, Syncs, Answers, disks_begun, lost_row, lost_if, unread, plan_or}
+use Rattle.array_machine.specs.RowJobs.{Need, NoNeed, Reads, Writes, Syncs, Answers, disks_begun, lost_row, lost_if, unread, plan_or, pair_of, read_or, after_reads, answer_if, any_blocked, xor_got}
 use Rattle.array_machine.specs.Rounds.{Ended, stored_of, Round}
 use Rattle.array_machine.specs.Changes.{DiskFails, ClientMoves, IsSilent, Change}
 use Rattle.array_machine.specs.Faults.{round_without, volumes_without, volume_lost, breaks, job_without, clients_without}
 use Rattle.array_machine.specs.Puts.{put}
 use Rattle.array_machine.specs.Turns.{no_call}
-use Rattle.array_machine.specs.ClientTurns.{the_volume, the_plan, row_tried, is_held, need_unless, job_changes, on_disk, meet, is_whole_now, is_without_spare, whole_answer, busy_kind, busy_unless, client_by}
+use Rattle.array_machine.specs.ClientTurns.{the_volume, the_plan, members_now, row_tried, is_held, need_unless, job_changes, on_disk, meet, is_whole_now, is_without_spare, whole_answer, busy_kind, busy_unless, client_by}
 use Rattle.array_machine.specs.Control.{Control}
 use Rattle.array_paths.specs.InTurn.{InTurn, is_broken, job_of, left_of}
 use Rattle.array_paths.specs.ClientMove.{fits_kind, NamesSector, Needs, LosesCall, loses, answers, fails, is_whole, has_no_spare, ClientCall, reads, writes, syncs}
@@ -71,6 +73,34 @@ got_after false plan new r tried same = kept_or_none _ r tried same
 got_after true None new r tried same = kept_or_none _ r tried same
 got_after true (Some plan) new r tried same = both_or_none _ r tried same
 
+-- a need that asks for a call
+abbrev AsksCall : Need → Type 0
+AsksCall NoNeed = ⊥
+AsksCall (Reads s) = ⊤
+AsksCall (Writes s) = ⊤
+AsksCall (Syncs s) = ⊤
+AsksCall (Answers answer) = ⊥
+
+-- a read that asks for one has slots left to read
+begins_anew : (S : Setting) (members : List Member) (pair left : List ℕ) (w : Bool) (r tried : Row) (need : Need)
+    → AsksCall need → read_or left (after_reads S members pair w r) ≡ need
+    → (w ≡ true) ⊎ (((lost_if left tried).plan ≡ None) × ((lost_if left tried).got ≡ []))
+begins_anew S members pair left true r tried need asks is = inl refl
+begins_anew S members pair (s ∷ ss) false r tried need asks is = inr (refl, refl)
+begins_anew S members pair [] false r tried need asks is = absurd (at (any_blocked members pair) need asks is)
+  where
+    at : (held : Bool) → (need : Need) → AsksCall need → answer_if held (Value (xor_got S r.got)) ≡ need → ⊥
+    at true (Reads s) asks is = cc
+    at true (Writes s) asks is = cc
+    at true (Syncs s) asks is = cc
+    at true NoNeed asks is = asks
+    at true (Answers answer) asks is = asks
+    at false (Reads s) asks is = cc
+    at false (Writes s) asks is = cc
+    at false (Syncs s) asks is = cc
+    at false NoNeed asks is = asks
+    at false (Answers answer) asks is = asks
+
 -- A FAILURE
 
 -- slots keep their disks, clients what they haven't submitted
@@ -124,9 +154,16 @@ module _ (S : Setting) (t : InTurn) (inside : RowsInside S) (ready : Ready S t.b
       at None is (Some (OpRead w s)) names fits = absurd cc
       at None is (Some (OpWhole w)) names fits = absurd names
 
-  loses_call : (d : ℕ) (has : Bool)
+  abbrev BeginsAnew : Type 0
+  BeginsAnew = (is_write S i ≡ true) ⊎ ((lost.plan ≡ None) × (lost.got ≡ []))
+
+  anew : (need : Need) → AsksCall need → need_unless S t.before i r false ≡ need → BeginsAnew
+  anew need asks is =
+      begins_anew S (members_now S t.before i r) (pair_of (the_place S i)) _ (is_write S i) r tried_row need asks is
+
+  loses_call : (d : ℕ) (has : Bool) → BeginsAnew
       → LosesCall S (put S (DiskFails d) t.before) i (after_failure has r) lost
-  loses_call d has =
+  loses_call d has again =
       let failed : Control = put S (DiskFails d) t.before in
       let old = failure_keeps has r in
       let new = lost_keeps tried_row.plan tried_row in
@@ -136,40 +173,41 @@ module _ (S : Setting) (t : InTurn) (inside : RowsInside S) (ready : Ready S t.b
         written = new.written ∙ sym old.written;
         synced = new.synced ∙ sym old.synced;
         got = got_after has r.plan (the_plan S t.before i r) r tried_row refl;
+        again = again;
         disks = new.disks ∙ ap (disks_begun r.begun r.disks) (sym slots)
             ∙ ap (λ b. disks_begun b r.disks (the_volume S failed i).slots) (sym old.begun)
             ∙ ap (λ ds. disks_begun (after_failure has r).begun ds (the_volume S failed i).slots) (sym old.disks);
       }
 
-  loses_comes : (d : ℕ)
+  loses_comes : (d : ℕ) → BeginsAnew
       → Comes S t (put S (DiskFails d) t.before) (ClientMoves k (with_job left (Busy i lost)) IsSilent)
-  loses_comes d =
+  loses_comes d again =
       let has = has_disk d (the_volume S t.before i).slots in
       client k _ _
       (loses i (after_failure has r) lost left (left_kept S d t.before.volumes t.before.clients k)
       (job_kept S d t.before.volumes t.before.clients k ∙ ap (job_without S d t.before.volumes) busy)
-      (loses_call d has))
+      (loses_call d has again))
 
   -- a call of the job on disk d, which so ends
-  job_call : (need : Need) (d : ℕ) (what : ℕ → What) → ((n : ℕ) → ClientCall S t.before k d i r need (what n) n)
+  job_call : (need : Need) → BeginsAnew → (d : ℕ) (what : ℕ → What) → ((n : ℕ) → ClientCall S t.before k d i r need (what n) n)
       → ((n : ℕ) → RowCall (S.start.disks.sectors d) (what n)) → MayFail S t.before d
       → (went : Bool) → x.went ≡ went
       → Path S t t.before (Some (call_on d (what (stored_of x 1)) went)) x
       (job_changes S t.before k left i tried_row x need d went)
-  job_call need d what call rows may true went =
+  job_call need again d what call rows may true went =
       let changes : List Change = job_changes S t.before k left i tried_row x need d true in
       subst (λ n. Path S t t.before (Some (call_on d (what n) true)) x changes)
       (sym (stored_all x went))
       (goes_on (row d (what 1) x _ may (rows 1) went (by_client k i r need (what 1) x (call 1))) (ends_here x))
-  job_call need d what call rows may false went =
+  job_call need again d what call rows may false went =
       let n = stored_of x 1 in
       lost_path S t (Some (call_on d (what n) false)) x d (ClientMoves k (with_job left (Busy i lost)) IsSilent)
-      (row_fails d (what n) x may (rows n) went (of_client k i r need (what n) n (call n))) (loses_comes d) refl
+      (row_fails d (what n) x may (rows n) went (of_client k i r need (what n) n (call n))) (loses_comes d again) refl
 
   module _ (sound : is_broken t.before (volume_of S i) ≡ false) (free : is_held S t.before k i ≡ false)
       (names : NamesSector (kind_at S.asked.ops i)) where
     needs : (need : Need) → need_unless S t.before i r false ≡ need → Needs S t.before k i r need
-    needs need is = record { has = busy; sound = sound; free = free; is = is }
+    needs need is = record { has = busy; sound = sound; free = free; names = names; is = is }
 
     -- its volume has room for its row before the metadata
     room : (s d : ℕ) → disk_in (the_volume S t.before i).slots s ≡ Some d
@@ -191,7 +229,7 @@ module _ (S : Setting) (t : InTurn) (inside : RowsInside S) (ready : Ready S t.b
         at None on = ends_here no_call
         at (Some d) on =
             call_path S t t.before d _
-            (λ may. job_call (Reads s) d (λ n. Read (place_on S i)) (λ n. reads i r s n (needs (Reads s) is) on)
+            (λ may. job_call (Reads s) (anew (Reads s) tt is) d (λ n. Read (place_on S i)) (λ n. reads i r s n (needs (Reads s) is) on)
             (λ n. row_read (place_on S i)) may x.went refl)
     need_path (Writes s) is = at (disk_in (the_volume S t.before i).slots s) refl
       where
@@ -200,7 +238,7 @@ module _ (S : Setting) (t : InTurn) (inside : RowsInside S) (ready : Ready S t.b
         at None on = ends_here no_call
         at (Some d) on =
             call_path S t t.before d _
-            (λ may. job_call (Writes s) d _ (λ n. writes i r s n (needs (Writes s) is) on)
+            (λ may. job_call (Writes s) (anew (Writes s) tt is) d _ (λ n. writes i r s n (needs (Writes s) is) on)
             (λ n. row_write (place_on S i) _ n (room s d on)) may x.went refl)
     need_path (Syncs s) is = at (disk_in (the_volume S t.before i).slots s) refl
       where
@@ -209,7 +247,7 @@ module _ (S : Setting) (t : InTurn) (inside : RowsInside S) (ready : Ready S t.b
         at None on = ends_here no_call
         at (Some d) on =
             call_path S t t.before d _
-            (λ may. job_call (Syncs s) d (λ n. Sync) (λ n. syncs i r s n (needs (Syncs s) is) on) (λ n. row_sync) may
+            (λ may. job_call (Syncs s) (anew (Syncs s) tt is) d (λ n. Sync) (λ n. syncs i r s n (needs (Syncs s) is) on) (λ n. row_sync) may
             x.went refl)
 
   held_path : is_broken t.before (volume_of S i) ≡ false → NamesSector (kind_at S.asked.ops i) → (held : Bool)

@@ -45,20 +45,23 @@ TakesWrites IsPending = ⊤
 TakesWrites IsActive = ⊤
 TakesWrites _ = ⊥
 
--- the job of client k, operation i, needs this next: its volume isn't broken, and no lock or pending write holds it
--- back
+-- The job of client k, operation i, which names a sector, needs this next: its volume isn't broken, and no lock or
+-- pending write holds it back.
 pub record Needs (S : Setting) (c : Control) (k i : ℕ) (r : Row) (need : Need) : Type 0 where
   pub has : job_of c k ≡ Busy i r
   pub sound : is_broken c (volume_of S i) ≡ false
   pub free : is_held S c k i ≡ false
+  pub names : NamesSector (kind_at S.asked.ops i)
   pub is : need_unless S c i r false ≡ need
 
--- A row job that lost its call: it has begun, what it wrote and synced stays, what it read stays or is read again.
+-- A row job that lost its call: it has begun, what it wrote and synced stays, what it read stays or is read again. A
+-- read begins anew.
 pub record LosesCall (S : Setting) (c : Control) (i : ℕ) (r new : Row) : Type 0 where
   pub begun : new.begun ≡ true
   pub written : new.written ≡ r.written
   pub synced : new.synced ≡ r.synced
   pub got : (new.got ≡ r.got) ⊎ (new.got ≡ [])
+  pub again : (is_write S i ≡ true) ⊎ ((new.plan ≡ None) × (new.got ≡ []))
   pub disks : new.disks ≡ disks_begun r.begun r.disks (volume_at c.volumes (volume_of S i)).slots
 
 -- A client's change without a call of its own: it submits its next operation; its sector isn't there; its write starts;
