@@ -79,7 +79,8 @@ module _ (S : Setting) (P : Premises S) (ks ls : ℕ → Disk) (d : ℕ) (m : La
     -- no other known block has its anchor
     pub round_fresh : (e : ℕ) → IsFresh (ks e) m
     round_fresh e a i same =
-        let is = P.by_anchor a m (core.known.blocks e a i) block same ∙ container in
+        let formed = ap P.edits.formed (sym g.book) ∙ core.hand.book.form in
+        let is = P.by_anchor a m (core.known.blocks e a i) formed same ∙ container in
         g.alone e a i is (ap S.start.words.generation same)
 
     twins_adds : (e f : ℕ) (a b : Laid) → In a (ls e).known → In b (ls f).known → IsContainer S a → IsContainer S b

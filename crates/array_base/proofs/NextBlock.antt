@@ -44,7 +44,7 @@ module _ (S : Setting) (P : Premises S) where
     whole = P.stays_whole f m e apt room book.form book.whole;
   }
 
-  book_edited : (f : Facts) (m : Laid) (es : List Edit) → AreApt S f m es → AllByRecursion (BringsRoomyDisk S) es
+  pub book_edited : (f : Facts) (m : Laid) (es : List Edit) → AreApt S f m es → AllByRecursion (BringsRoomyDisk S) es
       → MayBeBook S P.edits.formed m → MayBeBook S P.edits.formed (edited S f m es)
   book_edited f m [] apt room book = book
   book_edited f m (e ∷ es) apt room book =

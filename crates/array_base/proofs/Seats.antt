@@ -16,7 +16,7 @@ use Rattle.array_base.specs.Premises.{MayBeBook, Premises}
 -- LISTS
 
 -- the first that passes a test passes it
-first_passes : (test : ℕ → Bool) (ds : List ℕ) (d : ℕ) → first_of (filter test ds) ≡ Some d → test d ≡ true
+pub first_passes : (test : ℕ → Bool) (ds : List ℕ) (d : ℕ) → first_of (filter test ds) ≡ Some d → test d ≡ true
 first_passes test [] d h = absurd cc
 first_passes test (e ∷ es) d h = at (test e) refl (first_passes test es d) h
   where

@@ -122,7 +122,7 @@ toy_premises = record {
   seats = λ m v d w form whole started seat. has_rows;
   stays_whole = λ f m e apt room form whole d is. refl;
   room = λ serial n m whole. has_space n (has_none m.extended) (not (is_empty m.anchor.0)) whole;
-  by_anchor = λ a b is_a is_b same. ap (λ (s : Sector). if slice_index s.0 0 == 0 then false else true) same;
+  by_anchor = λ a m is form same. ap (λ (s : Sector). if slice_index s.0 0 == 0 then false else true) same;
   recorded = λ m serial form none. recorded m serial none;
   spare = λ book d form below large. record { whole = refl; extra = refl; alone = refl; spare = refl };
   serials = λ d e below other same. one_number d e same;

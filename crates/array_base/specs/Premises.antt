@@ -84,9 +84,9 @@ module _ (S : Setting) where
 
   -- Edits mean what their names say. A block of the form that they keep fits the end of a disk and expects disks of the
   -- bank alone. Its slots are in sync only where it expects their disks, and those of started volumes stand only on disks
-  -- that are large enough for the rows. An edit that fits keeps it whole. A block is whole only where there is room, its
-  -- anchor says whether it is a container's, and it expects no disk without a record. A spare's block is one. Disks have
-  -- serials of their own, and operations name rows of their volumes.
+  -- that are large enough for the rows. An edit that fits keeps it whole. A block is whole only where there is room, and
+  -- one with the anchor of a block of the form is a container's where that one is; a block of the form expects no disk
+  -- without a record. A spare's block is one. Disks have serials of their own, and operations name rows of their volumes.
   pub record Premises : Type 0 where
     pub edits : EditsMean S
     pub fits : (m : Laid) → edits.formed m ≡ true → FitsEnd S.start.words m
@@ -99,8 +99,8 @@ module _ (S : Setting) where
     pub stays_whole : (f : Facts) (m : Laid) (e : Edit) → IsApt S m e → BringsRoomyDisk e → edits.formed m ≡ true
         → IsWholeOnItsDisks m → IsWholeOnItsDisks (S.edit f m e)
     pub room : (serial : List ℕ) (n : ℕ) (m : Laid) → S.start.words.is_whole serial n m ≡ true → METADATA_SECTORS ≤ n
-    pub by_anchor : (a b : Laid) → IsBlock a → IsBlock b → a.anchor ≡ b.anchor
-        → is_container S.start.words a ≡ is_container S.start.words b
+    pub by_anchor : (a m : Laid) → IsBlock a → edits.formed m ≡ true → a.anchor ≡ m.anchor
+        → is_container S.start.words a ≡ is_container S.start.words m
     pub recorded : (m : Laid) (serial : List ℕ) → edits.formed m ≡ true
         → S.start.words.has_record m serial ≡ false → S.start.words.expects m serial ≡ false
     pub spare : (book : Laid) (d : ℕ) → edits.formed book ≡ true → d < S.start.disks.count

@@ -33,20 +33,20 @@ use Rattle.array_gate.specs.Gate.{round_of, round_in, SaysDirty, SaysDirtyIf, Is
 
 -- THE BLOCK OF WHAT GOES ON
 
-in_on_with : (aim : Aim) (m : Laid) (left late : List ℕ) (done : Bool)
+pub in_on_with : (aim : Aim) (m : Laid) (left late : List ℕ) (done : Bool)
     → round_in (on_with aim m left late done) ≡ round_of aim m
 in_on_with aim m [] late true = refl
 in_on_with aim m [] late false = refl
 in_on_with aim m (d ∷ ds) late done = refl
 
-in_stepped : (phase : Phase) → round_in (stepped phase) ≡ round_in phase
+pub in_stepped : (phase : Phase) → round_in (stepped phase) ≡ round_in phase
 in_stepped Rest = refl
 in_stepped (Going aim m step [] late done) = refl
 in_stepped (Going aim m AtExtended (d ∷ ds) late done) = refl
 in_stepped (Going aim m AtAnchor (d ∷ ds) late done) = refl
 in_stepped (Going aim m AtSync (d ∷ ds) late done) = in_on_with aim m ds late true
 
-in_dropped : (d : ℕ) (phase : Phase) → round_in (dropped d phase) ≡ round_in phase
+pub in_dropped : (d : ℕ) (phase : Phase) → round_in (dropped d phase) ≡ round_in phase
 in_dropped d Rest = refl
 in_dropped d (Going aim m step [] late done) = refl
 in_dropped d (Going aim m step (e ∷ es) late done) = at (e == d)
@@ -76,7 +76,7 @@ module _ (S : Setting) where
   works_trusted r d later is = rw (is, later) refl
 
   -- where a round may begin there is one
-  target_trusted : (r : Round) → r.first ≡ false → has_target S r ≡ true → (d : ℕ) × IsTrusted S (ledger r) d
+  pub target_trusted : (r : Round) → r.first ≡ false → has_target S r ≡ true → (d : ℕ) × IsTrusted S (ledger r) d
   target_trusted r later is =
       let found = any_has (λ d. expects S r.book d && not (is_late S r d)) (working_disks S r) is in
       (found.0, works_trusted r found.0 later (has_passes (works S r) (all_disks S) found.0 found.1))
