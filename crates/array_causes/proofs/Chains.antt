@@ -23,63 +23,66 @@ use Rattle.array_machine.specs.ManagerTurns.{posts, manages_by, managing, living
 use Rattle.array_machine.specs.TakeoverTurns.{best_of, resume_if, resumes, resumes_now, and_resumed, has_all, found_with, read_changes, taking}
 use Rattle.array_machine.specs.SyncTurns.{Work, row_work, settled, pass_need, pass_moves, pass_changes, pass_on, pass_meets, pass_at, synced, is_free_row}
 use Rattle.array_machine.specs.OtherTurns.{idle_if, quieted, fails_if, kills, restarts}
-use Rattle.array_causes.specs.Links.{Link, Fresh, BehindEnd, BehindReady, link_after, AsksToAdd, IsToBeAdded, Leans, Chain}
+use Rattle.array_causes.specs.Links.{Link, First, Fresh, BehindEnd, BehindReady, link_after, AsksToAdd, IsToBeAdded, MayTakeUpdates, IsSettled, Leans, Chain}
 
-module _ (S : Setting) where
+module _ (S : Setting) (begun : Control) where
   -- ENDS
 
-  runs_more : (xs ys : List PassRun) → Chain S BehindEnd (all_runs xs) → Chain S BehindEnd (all_runs ys)
-      → Chain S BehindEnd (all_runs (xs ++ ys))
+  runs_more : (xs ys : List PassRun) → Chain S begun BehindEnd (all_runs xs) → Chain S begun BehindEnd (all_runs ys)
+      → Chain S begun BehindEnd (all_runs (xs ++ ys))
   runs_more [] ys a b = b
   runs_more (x ∷ xs) ys a b = (a.0, runs_more xs ys a.1 b)
 
   pass_chain : (faults : List ℕ) (v : ℕ) (x : Volume) (before now : Option ℕ) (old new : ℕ)
-      → Chain S BehindEnd (all_runs (pass_ended faults v x before now old new))
+      → Chain S begun BehindEnd (all_runs (pass_ended faults v x before now old new))
   pass_chain faults v x (Some kind) None old new = (refl, tt)
   pass_chain faults v x (Some kind) (Some now) old new = at (nat_lt old new)
     where
       run : PassRun
       run = record { volume = v; slots = x.slots; pass = x.pass; word = Reaches new }
 
-      at : (b : Bool) → Chain S BehindEnd (all_runs (cond b (run ∷ []) []))
+      at : (b : Bool) → Chain S begun BehindEnd (all_runs (cond b (run ∷ []) []))
       at true = (refl, tt)
       at false = tt
   pass_chain faults v x None now old new = tt
 
   slots_chain : (faults : List ℕ) (last m : Laid) (v : ℕ) (x : Volume) (other : Bool)
-      → Chain S BehindEnd (all_runs (slots_ended S faults last m v x other))
+      → Chain S begun BehindEnd (all_runs (slots_ended S faults last m v x other))
   slots_chain faults last m v x true = (refl, tt)
   slots_chain faults last m v x false =
       pass_chain faults v x (S.start.words.pass last v) (S.start.words.pass m v) (S.start.words.unit last v)
       (S.start.words.unit m v)
 
   volume_chain : (faults : List ℕ) (last m : Laid) (v : ℕ) (x : Volume)
-      → Chain S BehindEnd (all_runs (volume_ended S faults last m v x))
+      → Chain S begun BehindEnd (all_runs (volume_ended S faults last m v x))
   volume_chain faults last m v x = at x.started
     where
-      at : (b : Bool) → Chain S BehindEnd
+      at : (b : Bool) → Chain S begun BehindEnd
           (all_runs (cond b (slots_ended S faults last m v x (has_other S (S.start.words.slots m v) x.slots)) []))
       at true = slots_chain faults last m v x (has_other S (S.start.words.slots m v) x.slots)
       at false = tt
 
   volumes_chain : (faults : List ℕ) (last m : Laid) (v : ℕ) (xs : List Volume)
-      → Chain S BehindEnd (all_runs (volumes_ended S faults last m v xs))
+      → Chain S begun BehindEnd (all_runs (volumes_ended S faults last m v xs))
   volumes_chain faults last m v [] = tt
   volumes_chain faults last m v (x ∷ xs) =
       runs_more (volume_ended S faults last m v x) (volumes_ended S faults last m (v + 1) xs)
       (volume_chain faults last m v x) (volumes_chain faults last m (v + 1) xs)
 
   -- whatever stands before it
-  pub end_chain : (c : Control) (link : Link) (e : Ending) → Chain S link (ended_by S c e)
-  end_chain c link GoesOn = tt
-  end_chain c link (Finishes m) = (tt, volumes_chain c.round.faults c.round.last m 0 c.volumes)
-  end_chain c link (MakesSpare d) = (tt, tt)
-  end_chain c link Lapses = (tt, tt)
+  pub end_chain : (c : Control) (link : Link) (e : Ending) → IsSettled link → Chain S begun link (ended_by S c e)
+  end_chain c link GoesOn settled = settled
+  end_chain c link (Finishes m) settled = (settled, volumes_chain c.round.faults c.round.last m 0 c.volumes)
+  end_chain c link (MakesSpare d) settled = (settled, tt)
+  end_chain c link Lapses settled = (settled, tt)
 
-  pub and_ended_chain : (c : Control) (link : Link) (a : Change) → Leans S link a → Chain S link (and_ended S c a)
-  and_ended_chain c link a leans = (leans, end_chain (put S a c) (link_after link a) (ending (put S a c).round.phase))
+  pub and_ended_chain : (c : Control) (link : Link) (a : Change) → Leans S begun link a
+      → IsSettled (link_after link a) → Chain S begun link (and_ended S c a)
+  and_ended_chain c link a leans settled =
+      (leans, end_chain (put S a c) (link_after link a) (ending (put S a c).round.phase) settled)
 
-  pub call_chain : (may : Bool) (turn : Turn) → Chain S Fresh turn.changes → Chain S Fresh (call_if may turn).changes
+  pub call_chain : (may : Bool) (turn : Turn) → Chain S begun First turn.changes
+      → Chain S begun First (call_if may turn).changes
   call_chain true turn chain = chain
   call_chain false turn chain = tt
 
@@ -115,124 +118,132 @@ module _ (S : Setting) where
           unless_adds (remove_refusals S c d) (EditsBook (RemovesDisk (S.start.disks.serial d) ∷ [])) tt
 
   apply_chain : (c : Control) (u : Update) (rest : List Update) (v : Verdict) → AddsSpare v
-      → Chain S Fresh (apply_verdict S c u rest v)
-  apply_chain c u rest (Refuses kind) adds = (tt, tt)
-  apply_chain c u rest (EditsBook edits) adds = (tt, (tt, tt))
-  apply_chain c u rest (WritesSpare d) adds = (tt, ((refl, adds), tt))
+      → MayTakeUpdates S begun → Chain S begun First (apply_verdict S c u rest v)
+  apply_chain c u rest (Refuses kind) adds may = ((refl, may), tt)
+  apply_chain c u rest (EditsBook edits) adds may = ((refl, may), (tt, tt))
+  apply_chain c u rest (WritesSpare d) adds may = ((refl, may), ((refl, adds), tt))
 
-  update_chain : (c : Control) (target : Bool) (queue : List Update) → Chain S Fresh (apply_if S c target queue)
-  update_chain c true (u ∷ rest) = apply_chain c u rest (verdict_of S c u.seen u.want) (verdict_adds c u.seen u.want)
-  update_chain c true [] = tt
-  update_chain c false queue = tt
+  update_chain : (c : Control) (target : Bool) (queue : List Update)
+      → (target ≡ true → MayTakeUpdates S begun) → Chain S begun First (apply_if S c target queue)
+  update_chain c true (u ∷ rest) may =
+      apply_chain c u rest (verdict_of S c u.seen u.want) (verdict_adds c u.seen u.want) (may refl)
+  update_chain c true [] may = tt
+  update_chain c false queue may = tt
 
   -- THE MONITOR
 
-  deed_chain : (c : Control) (deed : Deed) → Chain S Fresh (rest_changes S c deed)
-  deed_chain c Nothing = update_chain c (has_target S c.round) c.manager.queue
-  deed_chain c (ReadiesVolume v) = (tt, opened (S.start.words.pass c.round.book v))
+  deed_chain : (c : Control) (deed : Deed) → (has_target S c.round ≡ true → MayTakeUpdates S begun)
+      → Chain S begun First (rest_changes S c deed)
+  deed_chain c Nothing may = update_chain c (has_target S c.round) c.manager.queue may
+  deed_chain c (ReadiesVolume v) may = (tt, opened (S.start.words.pass c.round.book v))
     where
-      opened : (kind : Option ℕ) → Chain S (BehindReady v) (opens_pass S c v kind)
+      opened : (kind : Option ℕ) → Chain S begun (BehindReady v) (opens_pass S c v kind)
       opened None = tt
       opened (Some kind) = (refl, tt)
-  deed_chain c (LetsWrites v) = (tt, tt)
-  deed_chain c (UnblocksDisk d) = (tt, tt)
-  deed_chain c (CleansVolume v) = (tt, tt)
-  deed_chain c BeginsRound = (tt, tt)
+  deed_chain c (LetsWrites v) may = (tt, tt)
+  deed_chain c (UnblocksDisk d) may = (tt, tt)
+  deed_chain c (CleansVolume v) may = (tt, tt)
+  deed_chain c BeginsRound may = (tt, tt)
 
-  called_chain : (c : Control) (went : Bool) (d : ℕ) (changes : List Change) → Chain S Fresh changes
-      → Chain S Fresh (called S c went d changes)
+  called_chain : (c : Control) (went : Bool) (d : ℕ) (changes : List Change) → Chain S begun First changes
+      → Chain S begun First (called S c went d changes)
   called_chain c true d changes chain = chain
-  called_chain c false d changes chain = and_ended_chain c Fresh (DiskFails d) tt
+  called_chain c false d changes chain = and_ended_chain c First (DiskFails d) tt tt
 
-  monitor_chain : (c : Control) (x : Ended) (phase : Phase) → Chain S Fresh (monitor_at S c x phase).changes
-  monitor_chain c x Rest = deed_chain c (deed_of S c)
-  monitor_chain c x (Going aim m step [] late done) = tt
-  monitor_chain c x (Going aim m step (d ∷ ds) late done) =
-      call_chain (may_call S c.round d) _ (called_chain c x.went d _ (and_ended_chain c Fresh StepsOn tt))
+  monitor_chain : (c : Control) (x : Ended) (phase : Phase)
+      → (has_target S c.round ≡ true → MayTakeUpdates S begun) → Chain S begun First (monitor_at S c x phase).changes
+  monitor_chain c x Rest may = deed_chain c (deed_of S c) may
+  monitor_chain c x (Going aim m step [] late done) may = tt
+  monitor_chain c x (Going aim m step (d ∷ ds) late done) may =
+      call_chain (may_call S c.round d) _ (called_chain c x.went d _ (and_ended_chain c First StepsOn tt tt))
 
   -- TAKEOVERS
 
-  resumes_chain : (r : Round) (link : Link) (found : List ℕ) → Chain S link (resumes S r found)
-  resumes_chain r link [] = (tt, tt)
-  resumes_chain r link (d ∷ ds) = at _
+  resumes_chain : (r : Round) (link : Link) (found : List ℕ) → IsSettled link
+      → Chain S begun link (resumes S r found)
+  resumes_chain r link [] settled = (settled, tt)
+  resumes_chain r link (d ∷ ds) settled = at _
     where
-      at : (b : Bool) → Chain S link (resume_if (best_of S r d ds) b ∷ [])
-      at true = (tt, tt)
-      at false = (tt, tt)
+      at : (b : Bool) → Chain S begun link (resume_if (best_of S r d ds) b ∷ [])
+      at true = (settled, tt)
+      at false = (settled, tt)
 
-  and_resumed_chain : (c : Control) (a : Change) → Leans S Fresh a → Chain S Fresh (and_resumed S c a)
-  and_resumed_chain c a leans = (leans, at (put S a c).round.life)
+  and_resumed_chain : (c : Control) (a : Change) → Leans S begun First a → IsSettled (link_after First a)
+      → Chain S begun First (and_resumed S c a)
+  and_resumed_chain c a leans settled = (leans, at (put S a c).round.life)
     where
-      at : (life : Life) → Chain S (link_after Fresh a) (resumes_now S (put S a c).round life)
-      at (Takes [] seen found) = resumes_chain (put S a c).round (link_after Fresh a) found
-      at (Takes (d ∷ ds) seen found) = tt
-      at Lives = tt
-      at Killed = tt
-      at Dead = tt
+      at : (life : Life) → Chain S begun (link_after First a) (resumes_now S (put S a c).round life)
+      at (Takes [] seen found) = resumes_chain (put S a c).round (link_after First a) found settled
+      at (Takes (d ∷ ds) seen found) = settled
+      at Lives = settled
+      at Killed = settled
+      at Dead = settled
 
   read_chain : (c : Control) (went : Bool) (d : ℕ) (ds : List ℕ) (seen : List Sector) (found : List ℕ)
-      → Chain S Fresh (read_changes S c went d ds seen found)
+      → Chain S begun First (read_changes S c went d ds seen found)
   read_chain c true d ds seen found = at (has_all S seen)
     where
-      at : (b : Bool) → Chain S Fresh
+      at : (b : Bool) → Chain S begun First
           (cond b (and_resumed S c (TakeoverReads ds [] (found_with S c.round d seen found)))
           (TakeoverReads (d ∷ ds) seen found ∷ []))
-      at true = and_resumed_chain c (TakeoverReads ds [] (found_with S c.round d seen found)) tt
+      at true = and_resumed_chain c (TakeoverReads ds [] (found_with S c.round d seen found)) tt tt
       at false = (tt, tt)
-  read_chain c false d ds seen found = and_resumed_chain c (DiskFails d) tt
+  read_chain c false d ds seen found = and_resumed_chain c (DiskFails d) tt tt
 
   taking_chain : (c : Control) (x : Ended) (left : List ℕ) (seen : List Sector) (found : List ℕ)
-      → Chain S Fresh (taking S c x left seen found).changes
-  taking_chain c x [] seen found = resumes_chain c.round Fresh found
+      → Chain S begun First (taking S c x left seen found).changes
+  taking_chain c x [] seen found = resumes_chain c.round First found tt
   taking_chain c x (d ∷ ds) seen found =
       call_chain (may_call S c.round d) _ (read_chain c x.went d ds (seen ++ x.got ∷ []) found)
 
-  pub living_chain : (c : Control) (x : Ended) (life : Life) → Chain S Fresh (living S c x life).changes
-  living_chain c x Lives = monitor_chain c x c.round.phase
-  living_chain c x (Takes left seen found) = taking_chain c x left seen found
-  living_chain c x Killed = tt
-  living_chain c x Dead = tt
+  pub living_chain : (c : Control) (x : Ended) (life : Life)
+      → (life ≡ Lives → has_target S c.round ≡ true → MayTakeUpdates S begun)
+      → Chain S begun First (living S c x life).changes
+  living_chain c x Lives may = monitor_chain c x c.round.phase (may refl)
+  living_chain c x (Takes left seen found) may = taking_chain c x left seen found
+  living_chain c x Killed may = tt
+  living_chain c x Dead may = tt
 
   -- THE MANAGER
 
-  posts_chain : (c : Control) (want : Option Want) → Chain S Fresh (posts S c want)
+  posts_chain : (c : Control) (want : Option Want) → Chain S begun First (posts S c want)
   posts_chain c None = tt
   posts_chain c (Some want) = (tt, tt)
 
-  manages_chain : (c : Control) (returned : ℕ) → Chain S Fresh (manages_by S c returned)
+  manages_chain : (c : Control) (returned : ℕ) → Chain S begun First (manages_by S c returned)
   manages_chain c zero = posts_chain c _
   manages_chain c (suc n) = (tt, tt)
 
-  pub manager_chain : (c : Control) (b : Bool) → Chain S Fresh (managing S c b).changes
+  pub manager_chain : (c : Control) (b : Bool) → Chain S begun First (managing S c b).changes
   manager_chain c true = manages_chain c c.manager.returned
   manager_chain c false = tt
 
   -- PASSES
 
   pass_call_chain : (c : Control) (v : ℕ) (y : Volume) (p : Pass) (work : List Work) (x : Ended) (need : Need) (d : ℕ)
-      (went : Bool) → Chain S Fresh (pass_changes S c v y p work x need d went)
+      (went : Bool) → Chain S begun First (pass_changes S c v y p work x need d went)
   pass_call_chain c v y p work x need d true = (tt, tt)
   pass_call_chain c v y p work x need d false =
       let failed = put S (DiskFails d) c in (
         tt,
         and_ended_chain failed Fresh (pass_moves v y need p.row
-            (pass_without (shape_of S v) d y.slots (volume_at failed.volumes v).broken p)) tt,
+            (pass_without (shape_of S v) d y.slots (volume_at failed.volumes v).broken p)) tt tt,
       )
 
   pass_on_chain : (c : Control) (v : ℕ) (y : Volume) (p : Pass) (work : List Work) (x : Ended) (need : Need)
-      (disk : Option ℕ) → Chain S Fresh (pass_on S c v y p work x need disk).changes
+      (disk : Option ℕ) → Chain S begun First (pass_on S c v y p work x need disk).changes
   pass_on_chain c v y p work x need None = tt
   pass_on_chain c v y p work x need (Some d) =
       call_chain (may_call S c.round d) _ (pass_call_chain c v y p work x need d x.went)
 
   pass_meets_chain : (c : Control) (v : ℕ) (y : Volume) (p : Pass) (work : List Work) (x : Ended) (free : Bool)
-      (need : Need) → Chain S Fresh (pass_meets S c v y p work x free need).changes
+      (need : Need) → Chain S begun First (pass_meets S c v y p work x free need).changes
   pass_meets_chain c v y p work x free NoNeed = at p.over
     where
       over : Turn
       over = quietly (PassMoves v y.slots (Some p) GoesOnQuietly ∷ [])
 
-      at : (b : Bool) → Chain S Fresh (cond {A = Turn} b over idle).changes
+      at : (b : Bool) → Chain S begun First (cond {A = Turn} b over idle).changes
       at true = (tt, tt)
       at false = tt
   pass_meets_chain c v y p work x true (Reads s) = pass_on_chain c v y p work x (Reads s) (source_in y s)
@@ -243,7 +254,7 @@ module _ (S : Setting) where
   pass_meets_chain c v y p work x free (Answers answer) = tt
 
   pass_at_chain : (c : Control) (v : ℕ) (y : Volume) (x : Ended) (stops : Bool) (pass : Option Pass)
-      → Chain S Fresh (pass_at S c v y x stops pass).changes
+      → Chain S begun First (pass_at S c v y x stops pass).changes
   pass_at_chain c v y x stops None = tt
   pass_at_chain c v y x true (Some p) = tt
   pass_at_chain c v y x false (Some p) =
@@ -252,29 +263,29 @@ module _ (S : Setting) where
       let work = row_work (shape_of S v) members q.row in
       pass_meets_chain c v y q work x (is_free_row S c v q.row) (pass_need q work q.over q.syncing)
 
-  pub sync_chain : (c : Control) (v : ℕ) (x : Ended) → Chain S Fresh (synced S c v x).changes
+  pub sync_chain : (c : Control) (v : ℕ) (x : Ended) → Chain S begun First (synced S c v x).changes
   sync_chain c v x = pass_at_chain c v (volume_at c.volumes v) x _ (volume_at c.volumes v).pass
 
   -- TURNS WITHOUT A CALL
 
-  pub quiet_chain : (c : Control) (v : ℕ) → Chain S Fresh (quieted S c v).changes
+  pub quiet_chain : (c : Control) (v : ℕ) → Chain S begun First (quieted S c v).changes
   quiet_chain c v = at _
     where
-      at : (b : Bool) → Chain S Fresh (idle_if v b).changes
+      at : (b : Bool) → Chain S begun First (idle_if v b).changes
       at true = (tt, tt)
       at false = tt
 
-  pub fail_chain : (c : Control) (d : ℕ) (may : Bool) → Chain S Fresh (fails_if S c d may).changes
-  fail_chain c d true = and_ended_chain c Fresh (DiskFails d) tt
+  pub fail_chain : (c : Control) (d : ℕ) (may : Bool) → Chain S begun First (fails_if S c d may).changes
+  fail_chain c d true = and_ended_chain c First (DiskFails d) tt tt
   fail_chain c d false = tt
 
-  pub kill_chain : (life : Life) → Chain S Fresh (kills life).changes
+  pub kill_chain : (life : Life) → Chain S begun First (kills life).changes
   kill_chain Lives = (tt, tt)
   kill_chain Killed = tt
   kill_chain (Takes left seen found) = (tt, tt)
   kill_chain Dead = tt
 
-  pub takeover_chain : (left : List ℕ) (life : Life) → Chain S Fresh (restarts left life).changes
+  pub takeover_chain : (left : List ℕ) (life : Life) → Chain S begun First (restarts left life).changes
   takeover_chain left Lives = tt
   takeover_chain left Killed = (tt, tt)
   takeover_chain left (Takes more seen found) = tt

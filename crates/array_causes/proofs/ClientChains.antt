@@ -10,7 +10,7 @@ use Rattle.array_model.specs.Script.{kind_at, write_in, is_in_volume, is_write_i
 use Rattle.array_model.specs.Placement.{Placement, placement_of}
 use Rattle.array_machine.specs.Setting.{Setting}
 use Rattle.array_machine.specs.States.{State, IsReadonly, IsReadAuto, IsClean, IsPending, IsActive, IsIdle}
-use Rattle.array_machine.specs.Volumes.{Member, disk_in, source_in}
+use Rattle.array_machine.specs.Volumes.{volume_at, Member, disk_in, source_in}
 use Rattle.array_machine.specs.Operations.{volume_in, volume_of, shape_of, sector_in, place_at, the_place, is_write_kind, is_write}
 use Rattle.array_machine.specs.Clients.{Row, Job, NoJob, Submitted, Busy, with_job}
 use Rattle.array_machine.specs.RowJobs.{Need, NoNeed, Reads, Writes, Syncs, Answers, read_or, write_or, sync_or, answer_if, after_reads, any_blocked, xor_got, lost_row, unwritten, unsynced, unread, plan_or, planned, pair_of}
@@ -19,12 +19,12 @@ use Rattle.array_machine.specs.Control.{Control}
 use Rattle.array_machine.specs.Changes.{DiskFails, ClientMoves, IsSilent}
 use Rattle.array_machine.specs.Puts.{put}
 use Rattle.array_machine.specs.Turns.{may_call}
-use Rattle.array_machine.specs.ClientTurns.{asks_unless, begins_job, submit_at, submit_kind, submit_unless, submit_next, the_volume, members_now, is_held, row_tried, need_unless, job_changes, on_disk, meet, is_whole_now, is_without_spare, whole_answer, busy_kind, busy_unless, client_by}
+use Rattle.array_machine.specs.ClientTurns.{is_shut, asks_unless, begins_job, submit_at, submit_kind, submit_unless, submit_next, the_volume, members_now, is_held, row_tried, need_unless, job_changes, on_disk, meet, is_whole_now, is_without_spare, whole_answer, busy_kind, busy_unless, client_by}
 use Rattle.array_paths.specs.InTurn.{job_of}
 use Rattle.array_paths.specs.ClientMove.{fits_kind, fits_op, NamesSector}
 use Rattle.array_paths.specs.Ready.{JobsFit}
 use Rattle.array_causes.specs.AnswerKinds.{IsAnswerOf}
-use Rattle.array_causes.specs.Links.{Fresh, BehindSubmit, Chain}
+use Rattle.array_causes.specs.Links.{First, Fresh, BehindSubmit, MaySubmit, Chain}
 use Rattle.array_causes.proofs.Chains.{and_ended_chain, call_chain}
 
 module _ (S : Setting) where
@@ -82,7 +82,7 @@ module _ (S : Setting) where
       at (Some (OpWhole v)) is fits = tt
 
   -- a read comes to a value, a write to its end
-  abbrev IsMet : (writes : Bool) → Answer → Type 0
+  abbrev pub IsMet : (writes : Bool) → Answer → Type 0
   IsMet true Done = ⊤
   IsMet true _ = ⊥
   IsMet false (Value x) = ⊤
@@ -119,7 +119,7 @@ module _ (S : Setting) where
       (λ synced. met_sync left ending given
       (λ ended. met_if true (any_blocked members pair) Done given tt ended) synced) is
 
-  met_need : (c : Control) (i : ℕ) (r : Row) (held : Bool) (given : Answer)
+  pub met_need : (c : Control) (i : ℕ) (r : Row) (held : Bool) (given : Answer)
       → need_unless S c i r held ≡ Answers given → IsMet (is_write S i) given
   met_need c i r true given is = absurd cc
   met_need c i r false given is =
@@ -165,60 +165,69 @@ module _ (S : Setting) where
     -- SUBMITS
 
     asked_chain : (rest : List ℕ) (broken : Bool) (v : ℕ) (state : State) → is_write_in S.asked.ops v i ≡ true
-        → Chain S (BehindSubmit i) (asks_unless broken v state ++ begins_job k i rest ∷ [])
-    asked_chain rest true v state writes = (tt, tt)
-    asked_chain rest false v IsReadonly writes = (tt, tt)
-    asked_chain rest false v IsReadAuto writes = (writes, (tt, tt))
-    asked_chain rest false v IsClean writes = (writes, (tt, tt))
-    asked_chain rest false v IsPending writes = (tt, tt)
-    asked_chain rest false v IsActive writes = (tt, tt)
-    asked_chain rest false v IsIdle writes = (writes, (tt, tt))
+        → Chain S c (BehindSubmit k i) (asks_unless broken v state ++ begins_job k i rest ∷ [])
+    asked_chain rest true v state writes = (refl, tt)
+    asked_chain rest false v IsReadonly writes = (refl, tt)
+    asked_chain rest false v IsReadAuto writes = (writes, (refl, tt))
+    asked_chain rest false v IsClean writes = (writes, (refl, tt))
+    asked_chain rest false v IsPending writes = (refl, tt)
+    asked_chain rest false v IsActive writes = (refl, tt)
+    asked_chain rest false v IsIdle writes = (writes, (refl, tt))
 
     submit_at_chain : (rest : List ℕ) (kind : Option OpKind) → kind_at S.asked.ops i ≡ kind → NamesSector kind
         → (writes : Bool) → is_write_kind kind ≡ writes → (place : Option Placement) → place_at S i ≡ place
-        → Chain S Fresh (submit_at k i rest (volume_of S i) (the_volume S c i) writes place)
-    submit_at_chain rest kind is names writes w None nowhere =
-        (tt, (of_op i Past kind is (answers_past i kind is names nowhere), tt))
-    submit_at_chain rest kind is names false w (Some p) there = (tt, tt)
-    submit_at_chain rest kind is names true w (Some p) there =
-        (tt, asked_chain rest _ (volume_of S i) _ (writes_to i kind is w))
+        → MaySubmit c (kind_at S.asked.ops i)
+        → Chain S c First (submit_at k i rest (volume_of S i) (the_volume S c i) writes place)
+    submit_at_chain rest kind is names writes w None nowhere may =
+        ((refl, may), ((refl, of_op i Past kind is (answers_past i kind is names nowhere)), tt))
+    submit_at_chain rest kind is names false w (Some p) there may = ((refl, may), tt)
+    submit_at_chain rest kind is names true w (Some p) there may =
+        ((refl, may), asked_chain rest _ (volume_of S i) _ (writes_to i kind is w))
 
-    submit_chain : (rest : List ℕ) (shut : Bool) → Chain S Fresh (submit_unless S c k i rest shut)
-    submit_chain rest true = tt
-    submit_chain rest false = at (kind_at S.asked.ops i) refl
+    submit_chain : (rest : List ℕ) (shut : Bool) → is_shut (the_volume S c i) ≡ shut
+        → Chain S c First (submit_unless S c k i rest shut)
+    submit_chain rest true is = tt
+    submit_chain rest false ready = at (kind_at S.asked.ops i) refl
       where
-        at : (kind : Option OpKind) → kind_at S.asked.ops i ≡ kind → Chain S Fresh (submit_kind S c k i rest kind)
+        may : (kind : OpKind) → kind_at S.asked.ops i ≡ Some kind → MaySubmit c (kind_at S.asked.ops i)
+        may kind is =
+            subst (MaySubmit c) (sym is)
+            (sym (ap (λ k. is_shut (volume_at c.volumes (volume_in k))) is) ∙ ready)
+
+        at : (kind : Option OpKind) → kind_at S.asked.ops i ≡ kind → Chain S c First (submit_kind S c k i rest kind)
         at None is = tt
-        at (Some (OpWrite v s value)) is = submit_at_chain rest _ is tt true refl (place_at S i) refl
-        at (Some (OpRead v s)) is = submit_at_chain rest _ is tt false refl (place_at S i) refl
-        at (Some (OpWhole v)) is = (tt, tt)
+        at (Some (OpWrite v s value)) is =
+            submit_at_chain rest _ is tt true refl (place_at S i) refl (may (OpWrite v s value) is)
+        at (Some (OpRead v s)) is =
+            submit_at_chain rest _ is tt false refl (place_at S i) refl (may (OpRead v s) is)
+        at (Some (OpWhole v)) is = ((refl, may (OpWhole v) is), tt)
 
     -- ROW JOBS
 
     module _ (left : List ℕ) (r : Row) (x : Ended) where
       job_chain : (now : Row) (need : Need) (d : ℕ) (went : Bool)
-          → Chain S Fresh (job_changes S c k left i now x need d went)
+          → Chain S c First (job_changes S c k left i now x need d went)
       job_chain now need d true = (tt, tt)
       job_chain now need d false = (
         tt,
-        and_ended_chain S (put S (DiskFails d) c) Fresh
-            (ClientMoves k (with_job left (Busy i (lost_row now.plan now))) IsSilent) tt,
+        and_ended_chain S c (put S (DiskFails d) c) Fresh
+            (ClientMoves k (with_job left (Busy i (lost_row now.plan now))) IsSilent) tt tt,
       )
 
       disk_chain : (now : Row) (need : Need) (disk : Option ℕ)
-          → Chain S Fresh (on_disk S c k left i now x need disk).changes
+          → Chain S c First (on_disk S c k left i now x need disk).changes
       disk_chain now need None = tt
       disk_chain now need (Some d) =
-          call_chain S (may_call S c.round d) _ (job_chain now need d x.went)
+          call_chain S c (may_call S c.round d) _ (job_chain now need d x.went)
 
       meet_chain : (need : Need)
           → ((answer : Answer) → need ≡ Answers answer → IsAnswerOf S.start answer (kind_at S.asked.ops i))
-          → Chain S Fresh (meet S c k left i r x need).changes
+          → Chain S c First (meet S c k left i r x need).changes
       meet_chain NoNeed fits = tt
       meet_chain (Reads s) fits = disk_chain (row_tried S c i r) (Reads s) (source_in (the_volume S c i) s)
       meet_chain (Writes s) fits = disk_chain (row_tried S c i r) (Writes s) (disk_in (the_volume S c i).slots s)
       meet_chain (Syncs s) fits = disk_chain (row_tried S c i r) (Syncs s) (disk_in (the_volume S c i).slots s)
-      meet_chain (Answers answer) fits = (fits answer refl, tt)
+      meet_chain (Answers answer) fits = ((tt, fits answer refl), tt)
 
       -- of the kind of its operation
       needs_fit : (kind : Option OpKind) → kind_at S.asked.ops i ≡ kind → NamesSector kind → fits_op S i ≡ true
@@ -230,15 +239,15 @@ module _ (S : Setting) where
           (met_need c i r held answer need))
 
       whole_chain : (kind : Option OpKind) → kind_at S.asked.ops i ≡ kind → IsWholeKind kind → (whole lacks : Bool)
-          → Chain S Fresh (whole_answer k left i whole lacks).changes
-      whole_chain kind is asks true b = (of_op i Done kind is (done kind asks), tt)
+          → Chain S c First (whole_answer k left i whole lacks).changes
+      whole_chain kind is asks true b = ((tt, of_op i Done kind is (done kind asks)), tt)
         where
           done : (kind : Option OpKind) → IsWholeKind kind → IsAnswerOf S.start Done kind
           done None h = absurd h
           done (Some (OpWrite v s value)) h = absurd h
           done (Some (OpRead v s)) h = absurd h
           done (Some (OpWhole v)) h = tt
-      whole_chain kind is asks false true = (of_op i NoSpare kind is (lacks kind asks), tt)
+      whole_chain kind is asks false true = ((tt, of_op i NoSpare kind is (lacks kind asks)), tt)
         where
           lacks : (kind : Option OpKind) → IsWholeKind kind → IsAnswerOf S.start NoSpare kind
           lacks None h = absurd h
@@ -247,12 +256,12 @@ module _ (S : Setting) where
           lacks (Some (OpWhole v)) h = tt
       whole_chain kind is asks false false = tt
 
-      busy_chain : fits_op S i ≡ true → (broken : Bool) → Chain S Fresh (busy_unless S c k left i r x broken).changes
-      busy_chain fits true = (of_op i Failed _ refl (answers_failed i _ refl fits), tt)
+      busy_chain : fits_op S i ≡ true → (broken : Bool) → Chain S c First (busy_unless S c k left i r x broken).changes
+      busy_chain fits true = ((tt, of_op i Failed _ refl (answers_failed i _ refl fits)), tt)
       busy_chain fits false = at (kind_at S.asked.ops i) refl
         where
           at : (kind : Option OpKind) → kind_at S.asked.ops i ≡ kind
-              → Chain S Fresh (busy_kind S c k left i r x kind).changes
+              → Chain S c First (busy_kind S c k left i r x kind).changes
           at None is = tt
           at (Some (OpWrite v s value)) is =
               meet_chain _ (λ answer need. needs_fit _ is tt fits (is_held S c k i) answer need)
@@ -262,12 +271,12 @@ module _ (S : Setting) where
 
   -- THE TURN
 
-  next_chain : (c : Control) (k : ℕ) (left : List ℕ) → Chain S Fresh (submit_next S c k left)
+  next_chain : (c : Control) (k : ℕ) (left : List ℕ) → Chain S c First (submit_next S c k left)
   next_chain c k [] = tt
-  next_chain c k (i ∷ rest) = submit_chain c k i rest _
+  next_chain c k (i ∷ rest) = submit_chain c k i rest _ refl
 
   pub client_chain : (c : Control) → JobsFit S c → (k : ℕ) (x : Ended) (left : List ℕ) (job : Job)
-      → job_of c k ≡ job → Chain S Fresh (client_by S c k x left job).changes
+      → job_of c k ≡ job → Chain S c First (client_by S c k x left job).changes
   client_chain c fit k x left NoJob is = next_chain c k left
   client_chain c fit k x left (Submitted i) is = tt
   client_chain c fit k x left (Busy i r) is = busy_chain c k i left r x (fit k i r is) _

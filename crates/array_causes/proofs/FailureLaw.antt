@@ -14,7 +14,7 @@ use Rattle.array_machine.specs.Faults.{life_without}
 use Rattle.array_machine.specs.Control.{Control}
 use Rattle.array_machine.specs.Changes.{Change, RoundBegins, RoundEnds, SpareEnds, DiskFails, DiskUnblocks, StateGoes, ClientMoves, PassMoves, ManagerMoves, MonitorKilled, TakeoverStarts, TakeoverReads, MonitorResumes, MonitorDies, state_entry, client_entry, pass_entry, update_entry, entry_of}
 use Rattle.array_machine.specs.Puts.{put}
-use Rattle.array_machine.specs.Machine.{World, log_after, calls_after, entered, Reached}
+use Rattle.array_machine.specs.Machine.{World, begins_at, log_after, calls_after, entered, Reached}
 use Rattle.array_paths.specs.Effects.{after_effect}
 use Rattle.array_told.specs.Told.{Stamps}
 use Rattle.array_told.proofs.Stamps.{stamps_effect, stamps_open}
@@ -124,13 +124,13 @@ module _ (S : Setting) (F : ℕ → Type 0) where
   cause_later log call front stamp (Idle v) h = h
 
   -- what a journal says of failures and of the monitor's life
-  record FailuresTold (w : World) : Type 0 where
-    stamps : Stamps w
-    faults : (d : ℕ) → is_faulty d w.journal ≡ has d w.control.round.faults
-    disks : (d : ℕ) → DiskTold S F w.control w.journal d
-    down : is_down w.journal ≡ is_killed w.control.round.life
-    settled : w.control.round.ended ≡ true → has_settled w.journal ≡ true
-    law : FailureCauses S.start F w.log w.journal
+  pub record FailuresTold (w : World) : Type 0 where
+    pub stamps : Stamps w
+    pub faults : (d : ℕ) → is_faulty d w.journal ≡ has d w.control.round.faults
+    pub disks : (d : ℕ) → DiskTold S F w.control w.journal d
+    pub down : is_down w.journal ≡ is_killed w.control.round.life
+    pub settled : w.control.round.ended ≡ true → has_settled w.journal ≡ true
+    pub law : FailureCauses S.start F w.log w.journal
 
   lost_now : (w : World) (call : Option Call) (d : ℕ) → Stamps w → IsLost call d
       → HasLostCall (log_after w.log call) (calls_after w.calls call) d
@@ -182,7 +182,7 @@ module _ (S : Setting) (F : ℕ → Type 0) where
   causes_on w call (SpareEnds d) means told = (tt, tt)
   causes_on w call _ means told = tt
 
-  told_on : (w : World) (call : Option Call) (a : Change) → Means S F w.control call a → FailuresTold w
+  pub told_on : (w : World) (call : Option Call) (a : Change) → Means S F w.control call a → FailuresTold w
       → FailuresTold (after_effect S w call a)
   told_on w call a m told =
       let n = calls_after w.calls call in
@@ -202,6 +202,17 @@ module _ (S : Setting) (F : ℕ → Type 0) where
             (causes_on w call a m told);
       }
 
+  -- nothing was entered yet
+  pub failures_open : (volumes : List Volume) (spares : List ℕ) → FailuresTold (begins_at S volumes spares)
+  failures_open volumes spares = record {
+    stamps = stamps_open S volumes spares;
+    faults = λ d. refl;
+    disks = λ d. record { gone = λ x. absurd cc; held = λ x. absurd cc; still = λ x. absurd cc };
+    down = refl;
+    settled = λ x. absurd cc;
+    law = tt;
+  }
+
 -- in each run whose disks fail on their own only where they may
 pub failures_have_causes : (S : Setting) (P : Premises S) (F : ℕ → Type 0) (volumes : List Volume) (spares : List ℕ)
     → Opening S P volumes spares → (w : World) → (run : Reached S volumes spares w)
@@ -209,22 +220,12 @@ pub failures_have_causes : (S : Setting) (P : Premises S) (F : ℕ → Type 0) (
 failures_have_causes S P F volumes spares o w run actors =
     let found = along_links S P volumes spares o (FailsOnlyBy F) (λ t link w. FailsOnlyBy F t.who × FailuresTold S F w)
     follows w run actors in
-    found.2.1.law
+    found.3.1.law
   where
     follows : FollowsLinks S P volumes spares (FailsOnlyBy F) (λ t link w. FailsOnlyBy F t.who × FailuresTold S F w)
     follows = record {
-      opens = (
-        λ d is. absurd cc,
-        record {
-          stamps = stamps_open S volumes spares;
-          faults = λ d. refl;
-          disks = λ d. record { gone = λ x. absurd cc; held = λ x. absurd cc; still = λ x. absurd cc };
-          down = refl;
-          settled = λ x. absurd cc;
-          law = tt;
-        },
-      );
-      begins = λ t link w who may had. (may, had.1);
+      opens = (λ d is. absurd cc, failures_open S F volumes spares);
+      begins = λ t link w who may settled had. (may, had.1);
       step = λ t link w call x a over had. (
         had.0,
         told_on S F w call a (means S F t w.control call x a had.0 over.effect) had.1,

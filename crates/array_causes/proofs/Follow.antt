@@ -16,7 +16,7 @@ use Rattle.array_base.specs.Opening.{Opening}
 use Rattle.array_base.proofs.Effects.{effect_base}
 use Rattle.array_base.proofs.Slots.{effect_ready}
 use Rattle.array_base.proofs.Runs.{HasBase, each_world_has}
-use Rattle.array_causes.specs.Links.{Link, Fresh, link_after, Leans, Chain, IsFirst}
+use Rattle.array_causes.specs.Links.{Link, First, link_after, Leans, Chain, IsFirst, IsSettled}
 use Rattle.array_causes.specs.Follow.{AllActors, OverLink, FollowsLinks}
 use Rattle.array_causes.proofs.TurnChain.{turn_chain}
 
@@ -35,7 +35,7 @@ module _ (S : Setting) (P : Premises S) (Q : InTurn → Link → World → Type 
   }
 
   over : (link : Link) (w : World) (call : Option Call) (x : Ended) (a : Change) → IsFirst link call
-      → Effect S t w.control call x a → Leans S link a → HasBase S P w → OverLink S P t link w call x a
+      → Effect S t w.control call x a → Leans S t.before link a → HasBase S P w → OverLink S P t link w call x a
   over link w call x a first effect leans had = record {
     first = first;
     leans = leans;
@@ -46,9 +46,10 @@ module _ (S : Setting) (P : Premises S) (Q : InTurn → Link → World → Type 
   }
 
   chain_keeps : Keeps → (w : World) (link : Link) (call : Option Call) (x : Ended) (changes : List Change)
-      → IsFirst link call → Path S t w.control call x changes → Chain S link changes → HasBase S P w → Q t link w
-      → (last : Link) × Q t last (after S w (record { call = call; ended = x; changes = changes }))
-  chain_keeps step w link None x [] first (ends_here _) leans had q = (link, q)
+      → IsFirst link call → Path S t w.control call x changes → Chain S t.before link changes → HasBase S P w
+      → Q t link w → (last : Link) × IsSettled last
+      × Q t last (after S w (record { call = call; ended = x; changes = changes }))
+  chain_keeps step w link None x [] first (ends_here _) leans had q = (link, leans, q)
   chain_keeps step w link (Some call) x [] first path leans had q = elim path [ ]
   chain_keeps step w link None x (a ∷ more) first (goes_on effect path) leans had q =
       chain_keeps step (after_effect S w None a) (link_after link a) None x more tt path leans.1
@@ -62,18 +63,18 @@ module _ (S : Setting) (P : Premises S) (Q : InTurn → Link → World → Type 
 pub along_links : (S : Setting) (P : Premises S) (volumes : List Volume) (spares : List ℕ)
     → Opening S P volumes spares → (A : Actor → Type 0) (Q : InTurn → Link → World → Type 0)
     → FollowsLinks S P volumes spares A Q → (w : World) → (run : Reached S volumes spares w)
-    → AllActors S volumes spares A w run → (t : InTurn) × (link : Link) × Q t link w
-along_links S P volumes spares o A Q law w opens actors = (in_turn w.control Monitor, Fresh, law.opens)
+    → AllActors S volumes spares A w run → (t : InTurn) × (link : Link) × IsSettled link × Q t link w
+along_links S P volumes spares o A Q law w opens actors = (in_turn w.control Monitor, First, tt, law.opens)
 along_links S P volumes spares o A Q law w (goes {w = v} run a fits) actors =
     let had = along_links S P volumes spares o A Q law v run actors.1 in
     let t : InTurn = in_turn v.control a.actor in
-    let now = law.begins had.0 had.1 v a.actor actors.0 had.2 in
+    let now = law.begins had.0 had.1 v a.actor actors.0 had.2 had.3 in
     let base = each_world_has S P volumes spares o v run in
-    let kept = chain_keeps S P Q t fits (λ link u call x b effect q. law.step t link u call x b effect q) v Fresh _ _ _
+    let kept = chain_keeps S P Q t fits (λ link u call x b effect q. law.step t link u call x b effect q) v First _ _ _
     (first_call _) (turn_path S P.rows v.control base.ready a fits) (turn_chain S v.control base.ready.jobs a) base
     now in
-    (t, kept.0, kept.1)
+    (t, kept.0, kept.1, kept.2)
   where
-    first_call : (call : Option Call) → IsFirst Fresh call
+    first_call : (call : Option Call) → IsFirst First call
     first_call None = tt
     first_call (Some call) = refl

@@ -6,3 +6,16 @@ pub mod Journals
 pub mod Words
 pub mod Failures
 pub mod FailureLaw
+pub mod Grounds
+pub mod PassLaw
+pub mod AnswerLaw
+pub mod OpenOps
+pub mod StateWords
+pub mod StateComes
+pub mod OpenJobs
+pub mod StatesOn
+pub mod StateLaw
+pub mod RoundTargets
+pub mod RoundWords
+pub mod RoundLaw
+pub mod UpdateLaw

@@ -1,9 +1,9 @@
 -- What is said with a change, case by case, and a volume that is set in its list.
-use Rattle.std.proofs.Common.{◌≡◌, ℕ, zero, suc, ◌||◌, Bool, true, false, List, [], ◌∷◌, refl, slice_set}
+use Rattle.std.proofs.Common.{◌≡◌, ℕ, zero, suc, ◌||◌, Bool, true, false, List, [], ◌∷◌, refl, ap, slice_set}
 use Rattle.array_model.specs.declared.journal.Answer.{Answer}
 use Rattle.array_model.specs.declared.journal.DeclinedKind.{DeclinedKind}
 use Rattle.array_machine.specs.States.{StateWord, ToReady, ToPending, ToActive, ToActiveAgain, ToIdle, ToClean}
-use Rattle.array_machine.specs.Volumes.{Volume, volume_at}
+use Rattle.array_machine.specs.Volumes.{Volume, no_volume, volume_at}
 use Rattle.array_machine.specs.Changes.{ClientWord, IsSilent, Submits, Acknowledges, PassWord, GoesOnQuietly, OpensAt, Reaches, Closes, UpdateWord, SaysNothing, Posts, Applies, Declines}
 
 -- WORDS
@@ -48,6 +48,21 @@ field_kept f (y ∷ ys) zero x same zero = same
 field_kept f (y ∷ ys) zero x same (suc u) = refl
 field_kept f (y ∷ ys) (suc v) x same zero = refl
 field_kept f (y ∷ ys) (suc v) x same (suc u) = field_kept f ys v x same u
+
+-- a volume of the list that is set has what it was set to, and the others stay
+pub set_there : (volumes : List Volume) (v : ℕ) (x : Volume) → (volume_at volumes v ≡ no_volume → ⊥)
+    → volume_at (slice_set volumes v x) v ≡ x
+set_there [] v x there = absurd (there refl)
+set_there (y ∷ ys) zero x there = refl
+set_there (y ∷ ys) (suc v) x there = set_there ys v x there
+
+pub set_elsewhere : (volumes : List Volume) (v : ℕ) (x : Volume) (u : ℕ) → (v ≡ u → ⊥)
+    → volume_at (slice_set volumes v x) u ≡ volume_at volumes u
+set_elsewhere [] v x u other = refl
+set_elsewhere (y ∷ ys) zero x zero other = absurd (other refl)
+set_elsewhere (y ∷ ys) zero x (suc u) other = refl
+set_elsewhere (y ∷ ys) (suc v) x zero other = refl
+set_elsewhere (y ∷ ys) (suc v) x (suc u) other = set_elsewhere ys v x u (λ e. other (ap suc e))
 
 -- a clause that nothing adds to
 pub or_nothing : (b : Bool) → (b || false) ≡ b

@@ -15,7 +15,7 @@ use Rattle.array_paths.specs.Follows.{in_turn}
 use Rattle.array_base.specs.Premises.{Premises}
 use Rattle.array_base.specs.Opening.{Opening}
 use Rattle.array_base.specs.Base.{Base}
-use Rattle.array_causes.specs.Links.{Link, Fresh, link_after, Leans, IsFirst}
+use Rattle.array_causes.specs.Links.{Link, First, link_after, Leans, IsFirst, IsSettled}
 
 -- each actor that took a turn in a run is one of these
 abbrev pub AllActors : (S : Setting) (volumes : List Volume) (spares : List ℕ) → (Actor → Type 0) → (w : World)
@@ -27,7 +27,7 @@ AllActors S volumes spares A w (goes {w = before} run a fits) = A a.actor × All
 pub record OverLink (S : Setting) (P : Premises S) (t : InTurn) (link : Link) (w : World) (call : Option Call)
     (x : Ended) (a : Change) : Type 0 where
   pub first : IsFirst link call
-  pub leans : Leans S link a
+  pub leans : Leans S t.before link a
   pub fits : FitsGeneration (t.before.round.note + 1)
   pub effect : Effect S t w.control call x a
   pub base : Base S P w.log w.control
@@ -36,9 +36,9 @@ pub record OverLink (S : Setting) (P : Premises S) (t : InTurn) (link : Link) (w
 -- a fact that a law follows along runs whose actors are some
 pub record FollowsLinks (S : Setting) (P : Premises S) (volumes : List Volume) (spares : List ℕ) (A : Actor → Type 0)
     (Q : InTurn → Link → World → Type 0) : Type 0 where
-  pub opens : Q (in_turn (begins_at S volumes spares).control Monitor) Fresh (begins_at S volumes spares)
-  pub begins : (t : InTurn) (link : Link) (w : World) (who : Actor) → A who → Q t link w
-      → Q (in_turn w.control who) Fresh w
+  pub opens : Q (in_turn (begins_at S volumes spares).control Monitor) First (begins_at S volumes spares)
+  pub begins : (t : InTurn) (link : Link) (w : World) (who : Actor) → A who → IsSettled link → Q t link w
+      → Q (in_turn w.control who) First w
   pub step : (t : InTurn) (link : Link) (w : World) (call : Option Call) (x : Ended) (a : Change)
       → OverLink S P t link w call x a → Q t link w → Q t (link_after link a) (after_effect S w call a)
 

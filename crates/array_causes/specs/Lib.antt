@@ -1,4 +1,11 @@
 pub mod AnswerKinds
 pub mod Links
+pub mod Before
 pub mod Follow
 pub mod Failures
+pub mod Answers
+pub mod PassCauses
+pub mod StateCauses
+pub mod RoundCauses
+pub mod UpdateCauses
+pub mod SmallCauses
