@@ -45,7 +45,7 @@ there_by_state : (volumes : List Volume) (v : ℕ) (state : State) → (volume_a
 there_by_state volumes v state is other =
     there volumes v (λ e. other (sym (ap (λ (x : Volume). x.state) e) ∙ is))
 
-there_by_start : (volumes : List Volume) (v : ℕ) → (volume_at volumes v).started ≡ true → v < length volumes
+pub there_by_start : (volumes : List Volume) (v : ℕ) → (volume_at volumes v).started ≡ true → v < length volumes
 there_by_start volumes v started =
     there volumes v (λ e. absurd (let not_one = ap (λ (x : Volume). x.started) e in cc (not_one, started)))
 
@@ -68,7 +68,7 @@ state_other volumes w state v is =
 
 module _ (S : Setting) (v : ℕ) where
   -- a write to the volume is told alike by job and journal
-  write_in_volume : (i : ℕ) → (is_write S i && (volume_of S i == v)) ≡ is_write_in S.asked.ops v i
+  pub write_in_volume : (i : ℕ) → (is_write S i && (volume_of S i == v)) ≡ is_write_in S.asked.ops v i
   write_in_volume i = at (kind_at S.asked.ops i)
     where
       at : (kind : Option OpKind) → (is_write_kind kind && (volume_in kind == v)) ≡ is_in_volume v (write_in kind)

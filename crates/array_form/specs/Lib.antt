@@ -1,2 +1,11 @@
 pub mod StateCounts
 pub mod RoundCounts
+pub mod Behind
+pub mod Follow
+pub mod Waits
+pub mod Passes
+pub mod Stamped
+pub mod SmallForm
+pub mod PassStarts
+pub mod Names
+pub mod SpareCauses

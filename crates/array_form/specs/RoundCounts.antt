@@ -1,11 +1,12 @@
 -- How often disks fail and are let go, monitors are taken over, and rounds end. Source: this project's own, over the
 -- states faulty and blocked of the kernel's md.rst and --takeover of mdmon(8).
-use Rattle.std.specs.Prelude.{ℕ, ◌+◌, ◌≤◌, not, Bool, true, false, List}
+use Rattle.std.specs.Prelude.{ℕ, ◌+◌, ◌≤◌, not, Bool, true, false, List, Option, Some}
 use Rattle.array_model.specs.declared.journal.Entry.{Entry}
-use Rattle.array_model.specs.Events.{count, is_begin, is_end, is_fault, is_unblock, is_kill, is_takeover}
+use Rattle.array_model.specs.Events.{count, is_begin, is_end, is_spare, is_applied, is_posted, is_settled, is_fault, is_unblock, is_kill, is_takeover}
 use Rattle.array_model.specs.Counts.{KeepsDiskCounts}
 use Rattle.array_machine.specs.Numbers.{has}
 use Rattle.array_machine.specs.Rounds.{Aim, OfRound, OfSpare, Phase, Rest, Going, Life, Lives, Killed, Takes, Dead, Round}
+use Rattle.array_machine.specs.Changes.{Change, ManagerMoves, Applies}
 use Rattle.array_form.specs.StateCounts.{one_if}
 
 -- THE LAW
@@ -14,6 +15,13 @@ use Rattle.array_form.specs.StateCounts.{one_if}
 pub record KeepsFailureCounts (journal : List Entry) : Type 0 where
   pub disks : (d : ℕ) → KeepsDiskCounts d journal
   pub takeovers : count is_takeover journal ≤ count is_kill journal
+
+-- each round that ended began; each disk that became a spare did so by an update that was applied; each update that was
+-- applied or declined was posted
+pub record KeepsRoundCounts (journal : List Entry) : Type 0 where
+  pub ends : count is_end journal ≤ count is_begin journal
+  pub spares : count is_spare journal ≤ count is_applied journal
+  pub settled : count is_settled journal ≤ count is_posted journal
 
 -- WHAT A RUN KEEPS
 
@@ -43,6 +51,21 @@ LifeCounts life journal = count is_takeover journal + one_if (is_killed life) �
 
 abbrev pub PhaseCounts : Phase → List Entry → Type 0
 PhaseCounts phase journal = count is_end journal + one_if (in_round phase) ≤ count is_begin journal
+
+-- the write of a spare's block goes on
+abbrev pub in_spare : Phase → Bool
+in_spare Rest = false
+in_spare (Going aim m step left late done) = not (is_round aim)
+
+-- an update was applied by the last change of this turn
+abbrev pub just_applied : Option Change → Bool
+just_applied (Some (ManagerMoves new (Applies n))) = true
+just_applied _ = false
+
+-- the write of a spare's block is owed to an update that was applied, and so is the spare
+abbrev pub SpareCounts : Option Change → Phase → List Entry → Type 0
+SpareCounts prev phase journal =
+    count is_spare journal + one_if (in_spare phase) + one_if (just_applied prev) ≤ count is_applied journal
 
 pub record RoundCounts (r : Round) (journal : List Entry) : Type 0 where
   pub disks : (d : ℕ) → DiskCounts d r.faults r.blocked journal
