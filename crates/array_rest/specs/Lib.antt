@@ -1,0 +1,5 @@
+pub mod Rests
+pub mod Between
+pub mod Round
+pub mod Seats
+pub mod Jobs
