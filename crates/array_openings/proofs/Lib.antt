@@ -1,0 +1,13 @@
+pub mod SpareBlocks
+pub mod RecordWords
+pub mod Anchors
+pub mod Seated
+pub mod ToldSlots
+pub mod Meets
+pub mod Finds
+pub mod Ends
+pub mod Apart
+pub mod Rests
+pub mod EditedBanks
+pub mod NewBanks
+pub mod WorkedBanks

@@ -1,0 +1,6 @@
+pub mod Spares
+pub mod RealDisks
+pub mod Opens
+pub mod Banks
+pub mod NewBanks
+pub mod Worked

@@ -1,0 +1,17 @@
+//! What laws over runs take as given is met by real disks: by the bytes of real blocks, the edits of `array_edits`, and
+//! disks whose serials are their own.
+//!
+//! The functions have the facts as their contracts and nothing to run.
+#![tactic(auto)]
+
+mod law;
+mod worked;
+
+pub use law::{
+    containers_at_rest_open, new_and_edited_containers_rest, real_containers_open,
+    real_disks_meet_the_premises, spare_blocks_are_whole,
+};
+pub use worked::{
+    example_of_a_degraded_mirror, example_of_a_spare, example_of_an_extended_block,
+    example_of_an_unfinished_volume, example_of_two_volumes,
+};
