@@ -1,6 +1,6 @@
 -- The parts of a block of the form that edits keep; such parts are laid as a block of that form.
 use Rattle.std.proofs.Common.{◌≡◌, ℕ, zero, suc, ◌+◌, ◌*◌, ◌%◌, ◌≤◌, ◌<◌, ◌==◌, ◌&&◌, ◌||◌, not, Bool, true, false, List, [], ◌∷◌, length, get_or, set, Option, Some, None, refl, sym, ◌∙◌, ap, subst, inl, inr, arith}
-use Rattle.std.specs.Prelude.{is_none, sum_by}
+use Rattle.std.specs.Prelude.{is_none, nat_lt, sum_by}
 use Rattle.std.specs.Option.{option_map_or}
 use Rattle.std.specs.List.{list_all, AllByRecursion, AllZip}
 use Rattle.std.proofs.lemmas.Bool.{and_parts, and_from, eqb-true, eq-eqb, leb-true, le-leb, cases_lt, false≢true}
@@ -9,10 +9,11 @@ use Rattle.std.proofs.lemmas.List.Sums.{sum_by-cons}
 use Rattle.std.proofs.lemmas.Option.{slice_get-get_or, slice_get_past}
 use Rattle.byteorder.specs.Endian.{little_bytes}
 use Rattle.imsm_base.specs.Fields.{Part, number}
-use Rattle.imsm_base.specs.Layout.{Block, Volume, HasLengths, IsVolume, IsBlock, header_lengths, disk_lengths, signature_of, size_of, disk_count_of, volume_count_of, tail_size_of, bytes_of}
+use Rattle.imsm_base.specs.Layout.{Block, Volume, HasLengths, IsVolume, IsBlock, header_lengths, disk_lengths, signature_of, size_of, disk_count_of, volume_count_of, tail_size_of, bytes_of, volume_size_of, strip_of, level_byte_of, member_count_of}
 use Rattle.imsm_base.specs.Parts.{maps_room, volumes_room}
 use Rattle.imsm_base.specs.Whole.{AreCounts, AreApart, IsAcceptedTail, IsWholeBlock, the_signature, expected_serials}
-use Rattle.imsm_base.specs.Volumes.{Fault, second_map_bytes, volume_fault}
+use Rattle.imsm_base.specs.Volumes.{Fault, first_map, level_of, second_map_bytes, volume_fault, volume_rows}
+use Rattle.units.specs.Levels.{rows_of}
 use Rattle.imsm_base.specs.Edits.{block_sealed}
 use Rattle.imsm_base.proofs.Joined.{length-bytes_of}
 use Rattle.imsm_base.proofs.Edited.{other_field}
@@ -24,7 +25,7 @@ use Rattle.block_meaning.specs.Meaning.{bytes_of_laid, of_volume}
 use Rattle.block_meaning.specs.Reading.{parts_of, block_words}
 use Rattle.block_meaning.specs.Whole.{is_whole_block}
 use Rattle.block_meaning.proofs.Decided.{whole-decided}
-use Rattle.array_edits.specs.Formed.{is_full, has_bounds, is_served, is_placed, is_formed, IsEditable}
+use Rattle.array_edits.specs.Formed.{is_full, has_bounds, has_short_rows, is_served, is_placed, is_formed, IsEditable}
 use Rattle.array_edits.proofs.Laid.{IsLaidOf, laid_again, laid-is}
 use Rattle.array_edits.proofs.Steady.{Steady, steady_itself}
 use Rattle.array_edits.proofs.Moves.{IsServed, moves_none, served_moved}
@@ -40,6 +41,7 @@ pub record IsSound (start : Start) (b : Block) : Type 0 where
   pub words : length (bytes_of b) % 4 ≡ 0
   pub bounds : length (bytes_of b) + sum_by second_map_bytes b.volumes ≤ 8192
   pub served : (v : ℕ) → start.is_started v ≡ true → IsServed b v
+  pub short : has_short_rows b ≡ true
 
 pub unsealed : (start : Start) (b : Block) → IsSound start b → IsUnsealed (bytes_of b) b
 unsealed start b s =
@@ -89,7 +91,8 @@ pub record IsGood (start : Start) (m : Laid) : Type 0 where
 pub formed_good : (start : Start) (m : Laid) → IsEditable start → is_formed start m ≡ true → IsGood start m
 formed_good start m can test =
     let b : Block = parts_of m in
-    let three = and_parts (is_placed m && is_whole_block (bytes_of_laid m) b && has_bounds b) (list_all (is_served start b) (0 ∷ 1 ∷ [])) test in
+    let four = and_parts (is_placed m && is_whole_block (bytes_of_laid m) b && has_bounds b && list_all (is_served start b) (0 ∷ 1 ∷ [])) (has_short_rows b) test in
+    let three = and_parts (is_placed m && is_whole_block (bytes_of_laid m) b && has_bounds b) (list_all (is_served start b) (0 ∷ 1 ∷ [])) four.0 in
     let two = and_parts (is_placed m && is_whole_block (bytes_of_laid m) b) (has_bounds b) three.0 in
     let one = and_parts (is_placed m) (is_whole_block (bytes_of_laid m) b) two.0 in
     let zeroth = and_parts (is_full m.anchor && list_all is_full m.extended) (block_words.extra m.anchor == length m.extended) one.0 in
@@ -112,6 +115,7 @@ formed_good start m can test =
         words = sym (ap (λ (n : ℕ). n % 4) long) ∙ w.sized.words;
         bounds = omega arith;
         served = λ v started. served_in start b v started (one_of_two v (λ k. is_served start b k ≡ true) (can.few v started) first.0 second.0);
+        short = four.1;
       };
     }
 
@@ -158,13 +162,15 @@ sound_formed start b s =
     let bounds = s.bounds in
     let served : (v : ℕ) → is_served start c v ≡ true = λ v.
     served_test start c v (start.is_started v) refl (λ started. served_header b c.header v s.is (sealed_count b l.size l.sum) (s.served v started)) in
-    and_from (is_placed m && is_whole_block (bytes_of_laid m) (parts_of m) && has_bounds (parts_of m)) (list_all (is_served start (parts_of m)) (0 ∷ 1 ∷ []))
+    and_from (is_placed m && is_whole_block (bytes_of_laid m) (parts_of m) && has_bounds (parts_of m) && list_all (is_served start (parts_of m)) (0 ∷ 1 ∷ [])) (has_short_rows (parts_of m))
+    (and_from (is_placed m && is_whole_block (bytes_of_laid m) (parts_of m) && has_bounds (parts_of m)) (list_all (is_served start (parts_of m)) (0 ∷ 1 ∷ []))
     (and_from (is_placed m && is_whole_block (bytes_of_laid m) (parts_of m)) (has_bounds (parts_of m))
     (and_from (is_placed m) (is_whole_block (bytes_of_laid m) (parts_of m))
     (and_from (is_full m.anchor && list_all is_full m.extended) _ (and_from (is_full m.anchor) _ l.full l.full_extended) (eq-eqb _ _ l.extra))
     ((whole-decided (bytes_of_laid m)).1 (subst (IsWholeBlock (bytes_of_laid m)) (sym l.parts) l.whole)))
     (ap has_bounds l.parts ∙ le-leb _ _ (omega arith)))
-    (ap (λ (x : Block). list_all (is_served start x) (0 ∷ 1 ∷ [])) l.parts ∙ and_from (is_served start c 0) _ (served 0) (and_from (is_served start c 1) true (served 1) refl))
+    (ap (λ (x : Block). list_all (is_served start x) (0 ∷ 1 ∷ [])) l.parts ∙ and_from (is_served start c 0) _ (served 0) (and_from (is_served start c 1) true (served 1) refl)))
+    (ap has_short_rows l.parts ∙ s.short)
 
 -- WHAT AN EDIT MAKES
 
@@ -236,6 +242,29 @@ made_words b c is m words =
       ap (λ (x : List ℕ). length x) m.gap,
     )
 
+-- THE ROWS
+
+abbrev rows_by : (size level count strip : ℕ) → ℕ
+rows_by size level count strip = rows_of (level_of level count) count size strip
+
+rows_kept : (v x : Volume) → Steady v x → volume_rows x ≡ volume_rows v
+rows_kept v x st =
+    ap (λ (n : ℕ). rows_by n (level_byte_of (first_map x)) (member_count_of (first_map x)) (strip_of (first_map x))) st.size
+    ∙ ap (λ (n : ℕ). rows_by (volume_size_of v) n (member_count_of (first_map x)) (strip_of (first_map x))) st.first.level
+    ∙ ap (λ (n : ℕ). rows_by (volume_size_of v) (level_byte_of (first_map v)) n (strip_of (first_map x))) st.first.count
+    ∙ ap (rows_by (volume_size_of v) (level_byte_of (first_map v)) (member_count_of (first_map v))) st.first.strip
+
+abbrev is_short : Volume → Bool
+is_short v = nat_lt (volume_rows v) 18446744073709551616
+
+short_kept : (vs ws : List Volume) → AllZip Steady vs ws → list_all is_short vs ≡ true → list_all is_short ws ≡ true
+short_kept [] [] zip all = refl
+short_kept [] (w ∷ ws) zip all = absurd zip
+short_kept (v ∷ vs) [] zip all = absurd zip
+short_kept (v ∷ vs) (w ∷ ws) zip all =
+    let both = and_parts (is_short v) (list_all is_short vs) all in
+    and_from (is_short w) (list_all is_short ws) (ap (λ (n : ℕ). nat_lt n 18446744073709551616) (rows_kept v w zip.0) ∙ both.0) (short_kept vs ws zip.1 both.1)
+
 -- it is sound where its disks are, and its volumes are served
 pub made_sound : (start : Start) (b c : Block) → IsSound start b → Makes b c → 1 ≤ disk_count_of c → disk_count_of c ≤ 16 →
     length (bytes_of b) + sum_by second_map_bytes b.volumes + 48 * disk_count_of c ≤ 8192 + 48 * disk_count_of b → AreApart (expected_serials c) →
@@ -249,4 +278,5 @@ made_sound start b c s m some few bounds apart served = record {
   words = made_words b c s.is m s.words;
   bounds = omega (arith, made_length b c s.is m);
   served = served;
+  short = short_kept b.volumes c.volumes m.volumes s.short;
 }

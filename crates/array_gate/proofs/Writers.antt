@@ -93,7 +93,7 @@ module _ (S : Setting) where
       → (i : ℕ) (r : Row) → new.job ≡ Busy i r → is_write S i ≡ true → is_broken c (volume_of S i) ≡ false
       → TakesWrites (state_of c (volume_of S i))
   moved_waits c k _ _ (submits j rest left free) wait i r is writes sound = absurd cc
-  moved_waits c k _ _ (takes j rest left free reading fits) wait i r is writes sound =
+  moved_waits c k _ _ (takes j rest left free reading fits ready_now) wait i r is writes sound =
       let same : j ≡ i = cc is in
       absurd (let none = subst (λ n. is_write S n ≡ false) same reading in cc (none, writes))
   moved_waits c k _ _ (is_past j left left_is job nowhere names) wait i r is writes sound = absurd cc

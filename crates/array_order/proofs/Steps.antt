@@ -22,7 +22,7 @@ module _ (S : Setting) where
   step_of_move : (c : Control) (k : ℕ) (new : Client) (word : ClientWord) → ClientMove S c k new word
       → StepsTo (client_at c.clients k) new word
   step_of_move c k _ _ (submits i rest left none) = record { was = none; left = left; is = refl }
-  step_of_move c k _ _ (takes i rest left none no_write fits) = record { was = none; left = left; is = refl }
+  step_of_move c k _ _ (takes i rest left none no_write fits ready_now) = record { was = none; left = left; is = refl }
   step_of_move c k _ _ (is_past i left l was none names) = record { left = sym l; was = ap op_in was; is = refl }
   step_of_move c k _ _ (starts i left l was w fits writable) =
       record { op = i; left = sym l; was = ap op_in was; is = refl }

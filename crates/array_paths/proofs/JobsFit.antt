@@ -40,7 +40,7 @@ module _ (S : Setting) (c : Control) (fit : JobsFit S c) where
   moved_fits : (k : ℕ) (new : Client) (word : ClientWord) → ClientMove S c k new word → (i : ℕ) (r : Row)
       → new.job ≡ Busy i r → fits_op S i ≡ true
   moved_fits k _ _ (submits j rest left free) i r is = absurd cc
-  moved_fits k _ _ (takes j rest left free reading fits) i r is =
+  moved_fits k _ _ (takes j rest left free reading fits ready_now) i r is =
       let same : j ≡ i = cc is in subst (λ n. fits_op S n ≡ true) same fits
   moved_fits k _ _ (is_past j left left_is job nowhere names) i r is = absurd cc
   moved_fits k _ _ (starts j left left_is job writing fits leave) i r is =

@@ -106,9 +106,10 @@ module _ (S : Setting) (t : InTurn) (c : Control) (k i : ℕ) (rest : List ℕ) 
     asks_path false sound IsIdle is open_now =
         starts_after ToActiveAgain IsIdle is (λ e. absurd cc) tt (again v sound is has_submitted)
 
-  takes_path : is_write S i ≡ false → fits_op S i ≡ true
+  takes_path : is_write S i ≡ false → fits_op S i ≡ true → is_shut (the_volume S c i) ≡ false
       → Path S t c None no_call (ClientMoves k (with_job rest (Busy i no_row)) (Submits i) ∷ [])
-  takes_path reading fits = lone S t c no_call _ (client k _ _ (takes i rest first free reading fits))
+  takes_path reading fits open_now =
+      lone S t c no_call _ (client k _ _ (takes i rest first free reading fits open_now))
 
   submit_at_path : (writing : Bool) → is_write S i ≡ writing → NamesSector (kind_at S.asked.ops i)
       → ((p : Placement) → place_at S i ≡ Some p → fits_op S i ≡ true) → is_shut (the_volume S c i) ≡ false
@@ -118,7 +119,7 @@ module _ (S : Setting) (t : InTurn) (c : Control) (k i : ℕ) (rest : List ℕ) 
   submit_at_path false w names fits open_now None is = past_path is names
   submit_at_path true w names fits open_now (Some p) is =
       goes_on (quiet no_call _ submit_comes) (asks_path w (fits p is) _ refl _ refl open_now)
-  submit_at_path false w names fits open_now (Some p) is = takes_path w (fits p is)
+  submit_at_path false w names fits open_now (Some p) is = takes_path w (fits p is) open_now
 
   fits_by : (p : Placement) → place_at S i ≡ Some p → fits_op S i ≡ fits_kind (Some p) (kind_at S.asked.ops i)
   fits_by p there = ap (λ q. fits_kind q (kind_at S.asked.ops i)) there
@@ -137,7 +138,7 @@ module _ (S : Setting) (t : InTurn) (c : Control) (k i : ℕ) (rest : List ℕ) 
       at (Some (OpRead v s)) is =
           submit_at_path false (rw is refl) (rw is tt) (λ p there. fits_by p there ∙ ap (fits_kind (Some p)) is)
           open_now (place_at S i) refl
-      at (Some (OpWhole v)) is = takes_path (rw is refl) (rw is refl)
+      at (Some (OpWhole v)) is = takes_path (rw is refl) (rw is refl) open_now
 
 pub next_path : (S : Setting) (t : InTurn) (c : Control) (k : ℕ) → job_of c k ≡ NoJob → (left : List ℕ)
     → left_of c k ≡ left → Path S t c None no_call (submit_next S c k left)

@@ -17,7 +17,7 @@ use Rattle.array_machine.specs.RowJobs.{Need, Reads, Writes, Syncs, Answers, sec
 use Rattle.array_machine.specs.Rounds.{Ended}
 use Rattle.array_machine.specs.Control.{Control}
 use Rattle.array_machine.specs.Changes.{Change, ClientMoves, ClientWord, IsSilent, Submits, Acknowledges}
-use Rattle.array_machine.specs.ClientTurns.{is_held, row_tried, need_unless, is_whole_now, is_without_spare}
+use Rattle.array_machine.specs.ClientTurns.{is_shut, is_held, row_tried, need_unless, is_whole_now, is_without_spare}
 use Rattle.array_paths.specs.InTurn.{state_of, is_broken, job_of, left_of}
 
 -- the operation names a sector that its volume has, or no sector
@@ -71,7 +71,8 @@ pub data ClientMove (S : Setting) (c : Control) (k : ℕ) : Client → ClientWor
   submits : (i : ℕ) (rest : List ℕ) → left_of c k ≡ i ∷ rest → job_of c k ≡ NoJob
       → ClientMove S c k (with_job rest (Submitted i)) (Submits i)
   takes : (i : ℕ) (rest : List ℕ) → left_of c k ≡ i ∷ rest → job_of c k ≡ NoJob → is_write S i ≡ false
-      → fits_op S i ≡ true → ClientMove S c k (with_job rest (Busy i no_row)) (Submits i)
+      → fits_op S i ≡ true → is_shut (volume_at c.volumes (volume_of S i)) ≡ false
+      → ClientMove S c k (with_job rest (Busy i no_row)) (Submits i)
   is_past : (i : ℕ) (left : List ℕ) → left_of c k ≡ left → job_of c k ≡ Submitted i → place_at S i ≡ None
       → NamesSector (kind_at S.asked.ops i) → ClientMove S c k (with_job left NoJob) (Acknowledges i Past)
   starts : (i : ℕ) (left : List ℕ) → left_of c k ≡ left → job_of c k ≡ Submitted i → is_write S i ≡ true
