@@ -67,7 +67,7 @@ module _ (S : Setting) where
       other_read c d left (seen ++ x.got ∷ []) found (has_all S (seen ++ x.got ∷ []))
 
   -- an answer comes without a call
-  answers_alone : (t : InTurn) (c : Control) {call : Option Call} {x : Ended} {a : Change} → Effect S t c call x a
+  pub answers_alone : (t : InTurn) (c : Control) {call : Option Call} {x : Ended} {a : Change} → Effect S t c call x a
       → (call ≡ None) ⊎ IsOther (entry_of S a)
   answers_alone t c (quiet x a comes) = inl refl
   answers_alone t c (row d what x a may calls went at) = inr (other_rows c d what x a at)
@@ -75,7 +75,7 @@ module _ (S : Setting) where
   answers_alone t c (steps d m step x target went) = inr tt
   answers_alone t c (step_fails d m step x target failed) = inr tt
 
-  pass_answers_none : (v : ℕ) (word : PassWord) (i : ℕ) (answer : Answer)
+  pub pass_answers_none : (v : ℕ) (word : PassWord) (i : ℕ) (answer : Answer)
       → pass_entry v word ≡ Some (Ack i answer) → ⊥
   pass_answers_none v GoesOnQuietly i answer is = cc is
   pass_answers_none v (OpensAt first) i answer is = cc is
@@ -179,7 +179,7 @@ module _ (S : Setting) where
       opened_seats [] = tt
       opened_seats (w ∷ ws) = ((λ d seat. seat), opened_seats ws)
 
-      seated_open : AreSeated S (begins_at S volumes spares).control
+      pub seated_open : AreSeated S (begins_at S volumes spares).control
       seated_open v started =
           let ws = S.start.words.slots S.start.newest v in
           let slots = (opening.volumes_are v).slots ∙ ap (λ b. cond b (map (slot_opened S) ws) []) started in
