@@ -1,0 +1,10 @@
+pub mod Edits
+pub mod Begun
+pub mod Moved
+pub mod NewBlock
+pub mod Holds
+pub mod RowReads
+pub mod InSync
+pub mod OpenJobs
+pub mod WholeNow
+pub mod WholeRuns
