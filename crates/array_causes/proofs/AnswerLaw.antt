@@ -68,7 +68,7 @@ module _ (S : Setting) where
   move_broken : (c : Control) (k : ℕ) (new : Client) (word : ClientWord) → ClientMove S c k new word
       → WordBroken c word
   move_broken c k _ _ (submits i rest left none) = tt
-  move_broken c k _ _ (takes i rest left none reads fits) = tt
+  move_broken c k _ _ (takes i rest left none reads fits ready_now) = tt
   move_broken c k _ _ (is_past i left l was nowhere names) = tt
   move_broken c k _ _ (starts i left l was writes fits writable) = tt
   move_broken c k _ _ (loses i r new left l was lost) = tt

@@ -1,12 +1,11 @@
 -- Each change of a client's turn leans on those before it, and each answer fits what its operation asks for.
-use Rattle.std.proofs.Common.{◌≡◌, ℕ, Bool, true, false, List, [], ◌∷◌, ◌++◌, refl, ap, sym, ◌∙◌, subst, arith, Option, Some, None}
+use Rattle.std.proofs.Common.{◌≡◌, ℕ, Bool, true, false, List, [], ◌∷◌, ◌++◌, refl, ap, sym, ◌∙◌, subst, Option, Some, None}
 use Rattle.std.specs.Prelude.{⊤, is_some}
-use Rattle.std.proofs.lemmas.Bool.Decides.{nat_tests}
 use Rattle.array_model.specs.declared.script.OpKind.{OpKind}
 use Rattle.array_model.specs.declared.script.OpKind.TheVariants.{Write as OpWrite, Read as OpRead, Whole as OpWhole}
 use Rattle.array_model.specs.declared.journal.Answer.{Answer}
 use Rattle.array_model.specs.declared.journal.Answer.TheVariants.{Done, Value, Past, Failed, NoSpare}
-use Rattle.array_model.specs.Script.{kind_at, write_in, is_in_volume, is_write_in}
+use Rattle.array_model.specs.Script.{kind_at}
 use Rattle.array_model.specs.Placement.{Placement, placement_of}
 use Rattle.array_machine.specs.Setting.{Setting}
 use Rattle.array_machine.specs.States.{State, IsReadonly, IsReadAuto, IsClean, IsPending, IsActive, IsIdle}
@@ -23,6 +22,8 @@ use Rattle.array_machine.specs.ClientTurns.{is_shut, asks_unless, begins_job, su
 use Rattle.array_paths.specs.InTurn.{job_of}
 use Rattle.array_paths.specs.ClientMove.{fits_kind, fits_op, NamesSector}
 use Rattle.array_paths.specs.Ready.{JobsFit}
+use Rattle.array_causes.specs.Writes.{is_write_there}
+use Rattle.array_causes.proofs.Writes.{writes_there}
 use Rattle.array_causes.specs.AnswerKinds.{IsAnswerOf}
 use Rattle.array_causes.specs.Links.{First, Fresh, BehindSubmit, MaySubmit, Chain}
 use Rattle.array_causes.proofs.Chains.{and_ended_chain, call_chain}
@@ -37,17 +38,6 @@ module _ (S : Setting) where
   some_is : (i : ℕ) (kind : Option OpKind) (b : Bool) → kind_at S.asked.ops i ≡ kind → is_some (place_at S i) ≡ b
       → is_some (placement_of (shape_of S (volume_in kind)) (sector_in kind)) ≡ b
   some_is i kind b is there = sym (ap is_some (place_is i kind is)) ∙ there
-
-  writes_to : (i : ℕ) (kind : Option OpKind) → kind_at S.asked.ops i ≡ kind → is_write_kind kind ≡ true
-      → is_write_in S.asked.ops (volume_of S i) i ≡ true
-  writes_to i kind is writes =
-      ap (λ k. is_in_volume (volume_in k) (write_in k)) is ∙ at kind writes
-    where
-      at : (kind : Option OpKind) → is_write_kind kind ≡ true → is_in_volume (volume_in kind) (write_in kind) ≡ true
-      at None w = absurd cc
-      at (Some (OpWrite v s value)) w = grind (arith, nat_tests)
-      at (Some (OpRead v s)) w = absurd cc
-      at (Some (OpWhole v)) w = absurd cc
 
   -- of a job that fits, the volume has the sector
   fits_some : (place : Option Placement) (kind : Option OpKind) → fits_kind place kind ≡ true
@@ -164,7 +154,8 @@ module _ (S : Setting) where
   module _ (c : Control) (k i : ℕ) where
     -- SUBMITS
 
-    asked_chain : (rest : List ℕ) (broken : Bool) (v : ℕ) (state : State) → is_write_in S.asked.ops v i ≡ true
+    asked_chain : (rest : List ℕ) (broken : Bool) (v : ℕ) (state : State)
+        → is_write_there S.start S.asked.ops v i ≡ true
         → Chain S c (BehindSubmit k i) (asks_unless broken v state ++ begins_job k i rest ∷ [])
     asked_chain rest true v state writes = (refl, tt)
     asked_chain rest false v IsReadonly writes = (refl, tt)
@@ -181,8 +172,11 @@ module _ (S : Setting) where
     submit_at_chain rest kind is names writes w None nowhere may =
         ((refl, may), ((refl, of_op i Past kind is (answers_past i kind is names nowhere)), tt))
     submit_at_chain rest kind is names false w (Some p) there may = ((refl, may), tt)
-    submit_at_chain rest kind is names true w (Some p) there may =
-        ((refl, may), asked_chain rest _ (volume_of S i) _ (writes_to i kind is w))
+    submit_at_chain rest kind is names true w (Some p) there may = (
+      (refl, may),
+      asked_chain rest _ (volume_of S i) _
+          (writes_there S i kind is w (some_is i kind true is (ap is_some there))),
+    )
 
     submit_chain : (rest : List ℕ) (shut : Bool) → is_shut (the_volume S c i) ≡ shut
         → Chain S c First (submit_unless S c k i rest shut)

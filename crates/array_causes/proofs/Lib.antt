@@ -1,3 +1,4 @@
+pub mod Writes
 pub mod Chains
 pub mod ClientChains
 pub mod TurnChain
@@ -13,9 +14,11 @@ pub mod OpenOps
 pub mod StateWords
 pub mod StateComes
 pub mod OpenJobs
+pub mod Wakes
 pub mod StatesOn
 pub mod StateLaw
 pub mod RoundTargets
 pub mod RoundWords
 pub mod RoundLaw
 pub mod UpdateLaw
+pub mod UnblockLaw

@@ -92,7 +92,7 @@ busy_without S d volumes (x ∷ xs) zero i r is = at x.job is
 busy_without S d volumes (x ∷ xs) (suc m) i r is = busy_without S d volumes xs m i r is
 
 -- what isn't broken wasn't
-sound_without : (S : Setting) (d : ℕ) (r : Round) (n : ℕ) (volumes : List Volume) (v : ℕ)
+pub sound_without : (S : Setting) (d : ℕ) (r : Round) (n : ℕ) (volumes : List Volume) (v : ℕ)
     → (volume_at (volumes_without S d r n volumes) v).broken ≡ false → (volume_at volumes v).broken ≡ false
 sound_without S d r n [] v is = is
 sound_without S d r n (x ∷ xs) zero is = at (x.started && has_disk d x.slots) is
@@ -147,7 +147,7 @@ module _ (S : Setting) where
         at (BehindReady w) has asked = absurd has
         at BehindApplied has asked = absurd has
 
-    opens_settled : (v row : ℕ) → MayOpen v row link → IsSettled link
+    pub opens_settled : (v row : ℕ) → MayOpen v row link → IsSettled link
     opens_settled v row may = at link may
       where
         at : (link : Link) → MayOpen v row link → IsSettled link

@@ -1,12 +1,12 @@
 -- Where a word is written to the state of a volume, and where a client's job comes from.
-use Rattle.std.proofs.Common.{◌≡◌, ℕ, Bool, true, false, List, [], ◌∷◌, ◌++◌, ap, sym, ◌∙◌, subst, Option, ◌⊎◌, inl, inr}
+use Rattle.std.proofs.Common.{◌≡◌, ℕ, Bool, true, false, List, [], ◌∷◌, ◌++◌, refl, ap, sym, ◌∙◌, subst, Option, None, ◌⊎◌, inl, inr}
 use Rattle.std.specs.Prelude.{⊤}
 use Rattle.device_log.specs.Log.{Call, What}
 use Rattle.array_machine.specs.Setting.{Setting}
 use Rattle.array_machine.specs.States.{State, IsReadonly, IsReadAuto, IsClean, IsPending, IsActive, IsIdle, StateWord, ToReady, ToPending, ToActive, ToActiveAgain, ToIdle, ToClean}
 use Rattle.array_machine.specs.Volumes.{Volume, no_volume, volume_at}
-use Rattle.array_machine.specs.Operations.{volume_of, is_write}
-use Rattle.array_machine.specs.Clients.{Row, NoJob, Submitted, Busy, Client, with_job}
+use Rattle.array_machine.specs.Operations.{volume_of, place_at, is_write}
+use Rattle.array_machine.specs.Clients.{Row, no_row, NoJob, Submitted, Busy, Client, with_job}
 use Rattle.array_machine.specs.RowJobs.{Need}
 use Rattle.array_machine.specs.Rounds.{Ended}
 use Rattle.array_machine.specs.TakeoverTurns.{has_all}
@@ -48,9 +48,22 @@ module _ (S : Setting) where
   IsSubmit (Submits i) = ⊤
   IsSubmit (Acknowledges i answer) = ⊥
 
+  -- the job that a client had before it moves: it goes on or was to begin; of a submit what is left, and its new job
+  abbrev pub JobWas : Control → (k : ℕ) → Client → ClientWord → Type 0
+  JobWas c k new IsSilent =
+      ((i : ℕ) × (r : Row) × (job_of c k ≡ Busy i r))
+      ⊎ ((i : ℕ) × (job_of c k ≡ Submitted i)
+      × (is_broken c (volume_of S i) ≡ false → TakesWrites (state_of c (volume_of S i))))
+  JobWas c k new (Acknowledges i answer) =
+      ((r : Row) × (job_of c k ≡ Busy i r)) ⊎ ((job_of c k ≡ Submitted i) × (place_at S i ≡ None))
+  JobWas c k new (Submits i) =
+      (rest : List ℕ) × (left_of c k ≡ i ∷ rest) × ((new.job ≡ Submitted i)
+      ⊎ ((is_write S i ≡ false) × (r : Row) × (new.job ≡ Busy i r)))
+
   pub record JobComes (c : Control) (k : ℕ) (new : Client) (word : ClientWord) : Type 0 where
     pub asks : (i : ℕ) → new.job ≡ Submitted i → IsSubmit word
     pub goes : (i : ℕ) (r : Row) → new.job ≡ Busy i r → BusyComes c k i
+    pub was : JobWas c k new word
 
   abbrev pub ChangeComes : Control → Change → Type 0
   ChangeComes c (ClientMoves k new word) = JobComes c k new word
@@ -63,28 +76,34 @@ module _ (S : Setting) where
     there = λ none. other (sym (ap (λ (x : Volume). x.state) none) ∙ is);
   }
 
-  no_job : (c : Control) (k : ℕ) (left : List ℕ) (word : ClientWord) → JobComes c k (with_job left NoJob) word
-  no_job c k left word = record { asks = λ i is. absurd cc; goes = λ i r is. absurd cc }
+  no_job : (c : Control) (k : ℕ) (left : List ℕ) (word : ClientWord) → JobWas c k (with_job left NoJob) word
+      → JobComes c k (with_job left NoJob) word
+  no_job c k left word was = record { asks = λ i is. absurd cc; goes = λ i r is. absurd cc; was = was }
 
   busy_job : (c : Control) (k i : ℕ) (left : List ℕ) (r : Row) (word : ClientWord) → BusyComes c k i
-      → JobComes c k (with_job left (Busy i r)) word
-  busy_job c k i left r word comes = record {
+      → JobWas c k (with_job left (Busy i r)) word → JobComes c k (with_job left (Busy i r)) word
+  busy_job c k i left r word comes was = record {
+    was = was;
     asks = λ j is. absurd cc;
     goes = λ j r2 is. let same : i ≡ j = cc is in subst (BusyComes c k) same comes;
   }
 
   job_so : (c : Control) (k : ℕ) (new : Client) (word : ClientWord) → ClientMove S c k new word → JobComes c k new word
-  job_so c k _ _ (submits i rest left none) = record { asks = λ j is. tt; goes = λ j r is. absurd cc }
-  job_so c k _ _ (takes i rest left none no_write fits) =
-      busy_job c k i rest _ (Submits i) (inr (inl no_write))
-  job_so c k _ _ (is_past i left l was nowhere names) = no_job c k left _
+  job_so c k _ _ (submits i rest left none) = record {
+    asks = λ j is. tt;
+    goes = λ j r is. absurd cc;
+    was = (rest, left, inl refl);
+  }
+  job_so c k _ _ (takes i rest left none no_write fits ready_now) =
+      busy_job c k i rest _ (Submits i) (inr (inl no_write)) (rest, left, inr (no_write, no_row, refl))
+  job_so c k _ _ (is_past i left l was nowhere names) = no_job c k left _ (inr (was, nowhere))
   job_so c k _ _ (starts i left l was is_one fits writable) =
-      busy_job c k i left _ IsSilent (inr (inr writable))
-  job_so c k _ _ (loses i r new left l was lost) = busy_job c k i left new IsSilent (inl (r, was))
-  job_so c k _ _ (answers i r answer left l needs) = no_job c k left _
-  job_so c k _ _ (fails i r left l was broken) = no_job c k left _
-  job_so c k _ _ (is_whole i r left l was kind sound whole) = no_job c k left _
-  job_so c k _ _ (has_no_spare i r left l was kind sound whole lacks) = no_job c k left _
+      busy_job c k i left _ IsSilent (inr (inr writable)) (inr (i, was, writable))
+  job_so c k _ _ (loses i r new left l was lost) = busy_job c k i left new IsSilent (inl (r, was)) (inl (i, r, was))
+  job_so c k _ _ (answers i r answer left l needs) = no_job c k left _ (inl (r, needs.has))
+  job_so c k _ _ (fails i r left l was broken) = no_job c k left _ (inl (r, was))
+  job_so c k _ _ (is_whole i r left l was kind sound whole) = no_job c k left _ (inl (r, was))
+  job_so c k _ _ (has_no_spare i r left l was kind sound whole lacks) = no_job c k left _ (inl (r, was))
 
   call_so : (c : Control) (k d i : ℕ) (r : Row) (need : Need) (what : What) (n : ℕ) → ClientCall S c k d i r need what n
       → job_of c k ≡ Busy i r
@@ -114,6 +133,7 @@ module _ (S : Setting) where
   rows_so : (c : Control) (d : ℕ) (what : What) (x : Ended) (a : Change) → AtRows S c d what x a → ChangeComes c a
   rows_so c d _ _ _ (by_client k i r need what x call) =
       busy_job c k i (left_of c k) _ IsSilent (inl (r, call_so c k d i r need what 1 call))
+      (inl (i, r, call_so c k d i r need what 1 call))
   rows_so c d _ _ _ (by_pass v p need what x call) = tt
   rows_so c d _ _ _ (by_monitor left seen found x life) = at (has_all S (seen ++ x.got ∷ []))
     where

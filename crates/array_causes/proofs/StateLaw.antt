@@ -33,6 +33,7 @@ use Rattle.array_causes.proofs.Words.{each_pass, each_update}
 use Rattle.array_causes.proofs.Grounds.{Grounds, LinkTold, told_now, FollowsGrounds, along_grounds}
 use Rattle.array_causes.proofs.StateComes.{From, WordComes, ChangeComes, effect_so}
 use Rattle.array_causes.proofs.OpenJobs.{AskedBy, asked_on, asked_at_first, IdleIsQuiet, quiet_on, idle_answered}
+use Rattle.array_causes.proofs.Wakes.{IdleTold, idle_on, idle_at_first, still_idle}
 use Rattle.array_causes.proofs.AnswerLaw.{broken_on}
 use Rattle.array_causes.proofs.OpenOps.{OpsOpen, open_on, none_open}
 use Rattle.array_causes.proofs.StatesOn.{StatesSaid, states_on}
@@ -54,37 +55,46 @@ module _ (S : Setting) where
     ops : OpsOpen S c journal
     asked : AskedBy S c link
     quiet : IdleIsQuiet S c
+    idle : IdleTold S c link journal
     broken : BrokenTold c journal
 
   module _ (begun c : Control) (link : Link) (n : ℕ) (journal : List Entry) (k : Known begun c link n journal) where
     abbrev Entered : Option Event → Type 0
-    Entered e = AtEachFrom (λ front e. StateCause S.asked.ops front e.stamp e.event) journal (entered n e)
+    Entered e = AtEachFrom (λ front e. StateCause S.start S.asked.ops front e.stamp e.event) journal (entered n e)
 
     -- STATES
 
-    said : (v : ℕ) (state : State) → From S c v state → StateSaid S.asked.ops v state journal
-    said v state from = subst (λ s. StateSaid S.asked.ops v s journal) from.is (k.states v)
+    said : (v : ℕ) (state : State) → From S c v state → StateSaid S v state journal
+    said v state from = subst (λ s. StateSaid S v s journal) from.is (k.states v)
 
     word_has_cause : (v : ℕ) (word : StateWord) → WordComes S c v word → Leans S begun link (StateGoes v word)
         → Entered (state_entry v word)
     word_has_cause v ToReady comes leans = ((said v IsReadonly comes.0, k.settled comes.1), tt)
     word_has_cause v ToPending (inl comes) leans =
-        ((inl (said v IsReadAuto comes), asked_behind S.asked.ops S refl v n journal link leans k.behind), tt)
+        ((inl (said v IsReadAuto comes), asked_behind S v n journal link leans k.behind), tt)
     word_has_cause v ToPending (inr comes) leans =
-        ((inr (said v IsClean comes), asked_behind S.asked.ops S refl v n journal link leans k.behind), tt)
+        ((inr (said v IsClean comes), asked_behind S v n journal link leans k.behind), tt)
     word_has_cause v ToActive comes leans = ((said v IsPending comes.0, k.settled comes.1), tt)
     word_has_cause v ToActiveAgain comes leans = tt
     word_has_cause v ToIdle comes leans =
         ((said v IsActive comes.0, none_open S v c journal comes.1 k.ops), tt)
-    word_has_cause v ToClean comes leans =
-        ((said v IsIdle comes.0, idle_answered S v c link journal leans k.asked k.quiet comes.1 comes.0.is k.ops), tt)
+    word_has_cause v ToClean comes leans = (
+      (
+        record {
+          said = said v IsIdle comes.0;
+          still = still_idle S c link journal leans k.idle v comes.1 comes.0.is;
+        },
+        idle_answered S v c link journal leans k.asked k.quiet comes.1 comes.0.is k.ops,
+      ),
+      tt,
+    )
 
     -- SUBMITS
 
     open_if : (v : ℕ) → is_shut (volume_at c.volumes v) ≡ false → IsOpen v journal
     open_if v shut closed = at (state_of c v) (k.states v) (is_broken c v) refl shut
       where
-        at : (state : State) → StateSaid S.asked.ops v state journal → (b : Bool) → is_broken c v ≡ b
+        at : (state : State) → StateSaid S v state journal → (b : Bool) → is_broken c v ≡ b
             → (is_readonly state && not b) ≡ false → has is_any_fault journal ≡ true
         at state told true is opened = k.broken v is
         at IsReadonly told false is opened = absurd cc
@@ -136,8 +146,9 @@ module _ (S : Setting) where
     ops : OpsOpen S w.control w.journal
     asked : AskedBy S w.control link
     quiet : IdleIsQuiet S w.control
+    idle : IdleTold S w.control link w.journal
     broken : BrokenTold w.control w.journal
-    law : StateCauses S.asked.ops w.journal
+    law : StateCauses S.start S.asked.ops w.journal
 
   states_step : (P : Premises S) (t : InTurn) (link : Link) (w : World) (call : Option Call) (x : Ended) (a : Change)
       → OverLink S P t link w call x a → Grounds S t link w → StatesTold link w
@@ -151,6 +162,7 @@ module _ (S : Setting) where
         ops = open_on S w.control a (step_of S t w.control call x a over.effect) n w.journal had.ops;
         asked = asked_on S t.before w.control link a comes over.leans had.asked;
         quiet = quiet_on S w.control had.quiet a comes;
+        idle = idle_on S t.before w.control link n w.journal had.idle a comes over.leans;
         broken = broken_on S w.control a n w.journal had.broken;
         law = at_each_more _ w.journal (entered n (entry_of S a)) had.law
             (change_has_cause t.before w.control link n w.journal (record {
@@ -161,6 +173,7 @@ module _ (S : Setting) where
               ops = had.ops;
               asked = had.asked;
               quiet = had.quiet;
+              idle = had.idle;
               broken = had.broken;
             }) a comes over.leans);
       }
@@ -173,12 +186,12 @@ module _ (S : Setting) where
   no_jobs (k ∷ ks) (suc m) = no_jobs ks m
 
   pub states_have_causes : (P : Premises S) (volumes : List Volume) (spares : List ℕ) → Opening S P volumes spares
-      → (w : World) → Reached S volumes spares w → StateCauses S.asked.ops w.journal
+      → (w : World) → Reached S volumes spares w → StateCauses S.start S.asked.ops w.journal
   states_have_causes P volumes spares o w run =
       let found = along_grounds S P volumes spares o (λ t link w. StatesTold link w) follows w run in found.2.law
     where
-      opened : (v : ℕ) → StateSaid S.asked.ops v (state_of (begins_at S volumes spares).control v) []
-      opened v = subst (λ state. StateSaid S.asked.ops v state []) (sym (o.volumes_are v).state) refl
+      opened : (v : ℕ) → StateSaid S v (state_of (begins_at S volumes spares).control v) []
+      opened v = subst (λ state. StateSaid S v state []) (sym (o.volumes_are v).state) refl
 
       none : (m : ℕ) (job : Job) → job_of (begins_at S volumes spares).control m ≡ job → NoJob ≡ job
       none m job is = sym (no_jobs (range_with_len 0 CLIENTS) m) ∙ is
@@ -190,6 +203,7 @@ module _ (S : Setting) where
           ops = λ i is. absurd cc;
           asked = λ m i is. absurd (let no = none m (Submitted i) is in cc no);
           quiet = λ v m i r sound idle is writes. absurd (let no = none m (Busy i r) is in cc no);
+          idle = record { still = λ v sound idle is. absurd cc; whose = λ k i is. absurd cc };
           broken = λ v is. absurd (let sound = (o.volumes_are v).sound in cc (sound, is));
           law = tt;
         };
@@ -198,6 +212,7 @@ module _ (S : Setting) where
           ops = had.ops;
           asked = asked_at_first S w.control link settled had.asked;
           quiet = had.quiet;
+          idle = idle_at_first S w.control link w.journal settled had.idle;
           broken = had.broken;
           law = had.law;
         };

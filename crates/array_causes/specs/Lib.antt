@@ -1,11 +1,14 @@
+pub mod Writes
 pub mod AnswerKinds
 pub mod Links
 pub mod Before
 pub mod Follow
 pub mod Failures
+pub mod Unblocks
 pub mod Answers
 pub mod PassCauses
 pub mod StateCauses
 pub mod RoundCauses
 pub mod UpdateCauses
+pub mod EachEntry
 pub mod SmallCauses

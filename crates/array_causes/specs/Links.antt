@@ -5,7 +5,7 @@ use Rattle.device_log.specs.Log.{Call}
 use Rattle.array_model.specs.declared.script.OpKind.{OpKind}
 use Rattle.array_model.specs.declared.script.Ask.{Ask}
 use Rattle.array_model.specs.declared.script.Ask.TheVariants.{Add}
-use Rattle.array_model.specs.Script.{kind_at, is_write_in}
+use Rattle.array_model.specs.Script.{kind_at}
 use Rattle.array_machine.specs.Setting.{Setting}
 use Rattle.array_machine.specs.States.{ToReady, ToPending, ToActiveAgain}
 use Rattle.array_machine.specs.Volumes.{volume_at}
@@ -15,6 +15,7 @@ use Rattle.array_machine.specs.ClientTurns.{is_shut}
 use Rattle.array_machine.specs.Rounds.{Lives, has_target}
 use Rattle.array_machine.specs.Control.{Control}
 use Rattle.array_machine.specs.Changes.{Change, SpareBegins, RoundEnds, StateGoes, ClientMoves, PassMoves, ManagerMoves, IsSilent, Submits, Acknowledges, OpensAt, Reaches, Closes, Applies, Declines}
+use Rattle.array_causes.specs.Writes.{is_write_there}
 use Rattle.array_causes.specs.AnswerKinds.{IsAnswerOf}
 
 -- No change was made yet in the turn; one on which nothing leans was; a client just submitted an operation, and asked
@@ -64,9 +65,9 @@ IsOwn k (BehindSubmit j i) = k ≡ j
 IsOwn k (BehindAsk j) = k ≡ j
 IsOwn k _ = ⊤
 
--- a write to the volume was just submitted
+-- a write to a sector of the volume was just submitted
 abbrev pub HasAsked : Setting → ℕ → Link → Type 0
-HasAsked S v (BehindSubmit k i) = is_write_in S.asked.ops v i ≡ true
+HasAsked S v (BehindSubmit k i) = is_write_there S.start S.asked.ops v i ≡ true
 HasAsked S v _ = ⊥
 
 -- a pass opens behind the end of a round, then from row 0, or where its volume was just made ready

@@ -6,11 +6,30 @@ use Rattle.array_model.specs.declared.script.OpKind.TheVariants.{Write as OpWrit
 use Rattle.array_model.specs.declared.script.Ask.{Ask}
 use Rattle.array_model.specs.declared.script.Ask.TheVariants.{Add}
 use Rattle.array_model.specs.declared.journal.Entry.{Entry}
-use Rattle.array_model.specs.declared.journal.Event.TheVariants.{Begin, End, Spare, Ready, Pass, Point, PassEnd, Active, Posted, Applied, Declined, Submit, Pending, Ack, Idle, Clean, Fault, Kill, Takeover}
+use Rattle.array_model.specs.declared.journal.Event.TheVariants.{Begin, End, Spare, Ready, Pass, Point, PassEnd, Active, Unblock, Posted, Applied, Declined, Submit, Pending, Ack, Idle, Clean, Fault, Kill, Takeover}
 use Rattle.array_model.specs.declared.journal.Answer.TheVariants.{Done, Failed}
 use Rattle.array_model.specs.declared.journal.DeclinedKind.TheVariants.{Stale}
-use Rattle.array_model.specs.Small.{the_volume, the_value, at, worked_journal}
+use Rattle.array_model.specs.Small.{the_volume, the_value, at, worked_journal, failing_journal}
 use Rattle.array_model.specs.SmallFailures.{first_disk, second_disk}
+
+-- A FAILURE: the disk is let go when the round that records it begins, before it has ended
+
+abbrev pub hasty_unblock : List Entry
+hasty_unblock = take 10 failing_journal ++ at 11 (Unblock second_disk) ∷ []
+
+-- a monitor is killed and taken over, and the next one too
+abbrev pub taken_over : List Entry
+taken_over = at 0 Kill ∷ at 0 Takeover ∷ at 0 Kill ∷ at 0 Takeover ∷ []
+
+-- it is killed twice; it is taken over without a kill; a disk is let go that has no fault
+abbrev pub killed_twice : List Entry
+killed_twice = at 0 Kill ∷ at 0 Kill ∷ []
+
+abbrev pub sudden_takeover : List Entry
+sudden_takeover = at 0 Takeover ∷ []
+
+abbrev pub healthy_unblock : List Entry
+healthy_unblock = at 0 (Begin 2) ∷ at 4 (End 2) ∷ at 4 (Unblock first_disk) ∷ []
 
 -- ANSWERS
 
@@ -66,6 +85,10 @@ idle_once = take 8 worked_journal ++ at 12 (Ack 0 Done) ∷ at 12 (Idle the_volu
 abbrev pub active_again : List Entry
 active_again =
     idle_once ++ at 12 (Submit 1) ∷ at 16 (Ack 1 Done) ∷ at 16 (Idle the_volume) ∷ at 16 (Clean the_volume) ∷ []
+
+-- it is called clean behind the second write, without having fallen idle again
+abbrev pub busy_clean : List Entry
+busy_clean = idle_once ++ at 12 (Submit 1) ∷ at 16 (Ack 1 Done) ∷ at 16 (Clean the_volume) ∷ []
 
 abbrev pub open_clean : List Entry
 open_clean = idle_once ++ at 12 (Submit 1) ∷ at 12 (Clean the_volume) ∷ []

@@ -12,6 +12,8 @@ use Rattle.array_model.specs.Script.{kind_at, is_write_in}
 use Rattle.array_model.specs.Events.{AtEach, has, is_submit, is_ack_of, is_any_fault}
 use Rattle.array_model.specs.Counts.{IsSubmitOf}
 use Rattle.array_model.specs.Causes.{ArrayState, ArrayClosed, ArrayReadAuto, ArrayClean, ArrayPending, ArrayActive, ArrayIdle}
+use Rattle.array_model.specs.Start.{Start}
+use Rattle.array_causes.specs.Writes.{is_write_there}
 use Rattle.array_causes.specs.Failures.{has_settled}
 
 -- WHAT A JOURNAL SAYS OF A VOLUME
@@ -32,23 +34,28 @@ said_from v said (e ∷ es) = said_from v (said_at v said e.event) es
 abbrev pub said_of : ℕ → List Entry → ArrayState
 said_of v journal = said_from v ArrayClosed journal
 
--- a write to the volume was submitted since it fell idle last
-abbrev pub woken_at : List Op → ℕ → Bool → Event → Bool
-woken_at ops v woken (Idle w) = if w.0 == v then false else woken
-woken_at ops v woken (Submit i) = if is_write_in ops v i then true else woken
-woken_at ops v woken _ = woken
+-- a write to a sector of the volume was submitted since it fell idle last
+abbrev pub woken_at : Start → List Op → ℕ → Bool → Event → Bool
+woken_at start ops v woken (Idle w) = if w.0 == v then false else woken
+woken_at start ops v woken (Submit i) = if is_write_there start ops v i then true else woken
+woken_at start ops v woken _ = woken
 
-abbrev pub woken_from : List Op → ℕ → Bool → List Entry → Bool
-woken_from ops v woken [] = woken
-woken_from ops v woken (e ∷ es) = woken_from ops v (woken_at ops v woken e.event) es
+abbrev pub woken_from : Start → List Op → ℕ → Bool → List Entry → Bool
+woken_from start ops v woken [] = woken
+woken_from start ops v woken (e ∷ es) = woken_from start ops v (woken_at start ops v woken e.event) es
 
-abbrev pub is_woken : List Op → ℕ → List Entry → Bool
-is_woken ops v journal = woken_from ops v false journal
+abbrev pub is_woken : Start → List Op → ℕ → List Entry → Bool
+is_woken start ops v journal = woken_from start ops v false journal
 
 -- it is active: it became so, or it fell idle and a write was submitted since
-abbrev pub IsLive : List Op → ℕ → List Entry → Type 0
-IsLive ops v journal =
-    (said_of v journal ≡ ArrayActive) ⊎ ((said_of v journal ≡ ArrayIdle) × (is_woken ops v journal ≡ true))
+abbrev pub IsLive : Start → List Op → ℕ → List Entry → Type 0
+IsLive start ops v journal =
+    (said_of v journal ≡ ArrayActive) ⊎ ((said_of v journal ≡ ArrayIdle) × (is_woken start ops v journal ≡ true))
+
+-- it is idle: no write was submitted since
+pub record IsIdle (start : Start) (ops : List Op) (v : ℕ) (journal : List Entry) : Type 0 where
+  pub said : said_of v journal ≡ ArrayIdle
+  pub still : is_woken start ops v journal ≡ false
 
 -- it is read-auto or clean: the next write to it makes it write-pending
 abbrev pub IsAtRest : ℕ → List Entry → Type 0
@@ -75,15 +82,15 @@ IsAskedFor front (Some (Whole v)) = IsOpen v.0 front
 -- active where it was write-pending; idle where it was active, and clean where it was idle, each where no write to it
 -- is open. Ready and active come where a round has ended since the opening or the last kill. An operation is submitted
 -- where its volume is open.
-abbrev pub StateCause : List Op → List Entry → (stamp : ℕ) → Event → Type 0
-StateCause ops front stamp (Ready v) = (said_of v.0 front ≡ ArrayClosed) × (has_settled front ≡ true)
-StateCause ops front stamp (Pending v) = IsAtRest v.0 front × IsSubmitOf ops v.0 stamp (last_or None front)
-StateCause ops front stamp (Active v) = (said_of v.0 front ≡ ArrayPending) × (has_settled front ≡ true)
-StateCause ops front stamp (Idle v) = IsLive ops v.0 front × AreAnswered ops v.0 front
-StateCause ops front stamp (Clean v) = (said_of v.0 front ≡ ArrayIdle) × AreAnswered ops v.0 front
-StateCause ops front stamp (Submit i) = IsAskedFor front (kind_at ops i)
-StateCause ops front stamp _ = ⊤
+abbrev pub StateCause : Start → List Op → List Entry → (stamp : ℕ) → Event → Type 0
+StateCause start ops front stamp (Ready v) = (said_of v.0 front ≡ ArrayClosed) × (has_settled front ≡ true)
+StateCause start ops front stamp (Pending v) = IsAtRest v.0 front × IsSubmitOf ops v.0 stamp (last_or None front)
+StateCause start ops front stamp (Active v) = (said_of v.0 front ≡ ArrayPending) × (has_settled front ≡ true)
+StateCause start ops front stamp (Idle v) = IsLive start ops v.0 front × AreAnswered ops v.0 front
+StateCause start ops front stamp (Clean v) = IsIdle start ops v.0 front × AreAnswered ops v.0 front
+StateCause start ops front stamp (Submit i) = IsAskedFor front (kind_at ops i)
+StateCause start ops front stamp _ = ⊤
 
 -- The law: each entry of a volume's state, and each submit, has its cause.
-abbrev pub StateCauses : List Op → List Entry → Type 0
-StateCauses ops journal = AtEach (λ front e. StateCause ops front e.stamp e.event) journal
+abbrev pub StateCauses : Start → List Op → List Entry → Type 0
+StateCauses start ops journal = AtEach (λ front e. StateCause start ops front e.stamp e.event) journal
