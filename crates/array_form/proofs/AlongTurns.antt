@@ -13,37 +13,12 @@ use Rattle.array_paths.specs.Follows.{in_turn}
 use Rattle.array_paths.proofs.TurnPath.{turns_are_paths}
 use Rattle.array_base.specs.Premises.{Premises}
 use Rattle.array_base.specs.Opening.{Opening}
-use Rattle.array_base.specs.Laws.{OverBase}
-use Rattle.array_base.proofs.Opens.{base_at_opening, ready_at_opening}
-use Rattle.array_base.proofs.AfterCalls.{base_after_call, call_does}
-use Rattle.array_base.proofs.Effects.{effect_base}
-use Rattle.array_base.proofs.Slots.{effect_ready}
-use Rattle.array_base.proofs.Runs.{HasBase}
+use Rattle.array_base.proofs.Runs.{HasBase, over_base, base_on, opens_with}
 use Rattle.array_form.specs.Behind.{Behind, AllBehind}
 use Rattle.array_form.specs.Follow.{FollowsTurns}
 use Rattle.array_form.proofs.TurnsBehind.{turn_behind}
 
 module _ (S : Setting) (P : Premises S) where
-  over : (t : InTurn) (w : World) (call : Option Call) (x : Ended) (a : Change)
-      → FitsGeneration (t.before.round.note + 1) → Effect S t w.control call x a → HasBase S P w
-      → OverBase S P t w call x a
-  over t w call x a fits effect had = record {
-    fits = fits;
-    effect = effect;
-    before = had.base;
-    ready = had.ready;
-    does = call_does S P t w.log w.control had.base effect;
-    between = base_after_call S P t w.log w.control had.base effect;
-    behind = effect_base S P t w.log w.control effect had.base;
-  }
-
-  base_on : (t : InTurn) (w : World) (call : Option Call) (x : Ended) (a : Change) → Effect S t w.control call x a
-      → HasBase S P w → HasBase S P (after_effect S w call a)
-  base_on t w call x a effect had = record {
-    base = effect_base S P t w.log w.control effect had.base;
-    ready = effect_ready S P t w.control call x a effect had.base.core.hand.last had.ready;
-  }
-
   module _ (volumes : List Volume) (spares : List ℕ) (o : Opening S P volumes spares)
       (Q : InTurn → Option Change → List Change → World → Type 0) (law : FollowsTurns S P volumes spares Q) where
     -- the fact, behind the turn's last change
@@ -55,13 +30,12 @@ module _ (S : Setting) (P : Premises S) where
         → Behind S t.before w.control prev more a → HasBase S P w × Q t prev (a ∷ more) w
         → HasBase S P (after_effect S w call a) × Q t (Some a) more (after_effect S w call a)
     on_one t prev more w call x a fits effect behind had = (
-      base_on t w call x a effect had.0,
-      law.step t prev more w call x a (over t w call x a fits effect had.0) behind had.1,
+      base_on S P t w call x a effect had.0,
+      law.step t prev more w call x a (over_base S P t w call x a fits effect had.0) behind had.1,
     )
 
     quietly_on : (t : InTurn) → FitsGeneration (t.before.round.note + 1) → (prev : Option Change) (w : World)
-        (x : Ended)
-        (changes : List Change) → Path S t w.control None x changes → AllBehind S t.before w.control prev changes
+        (x : Ended) (changes : List Change) → Path S t w.control None x changes → AllBehind S t.before w.control prev changes
         → HasBase S P w × Q t prev changes w
         → AtEnd t (after S w (record { call = None; ended = x; changes = changes }))
     quietly_on t fits prev w x [] (ends_here _) behind had = (prev, had.0, had.1)
@@ -84,7 +58,7 @@ module _ (S : Setting) (P : Premises S) where
       in_turn w.control Monitor,
       (
         None,
-        record { base = base_at_opening S P volumes spares o; ready = ready_at_opening S P volumes spares o },
+        opens_with S P volumes spares o,
         law.opens,
       ),
     )

@@ -1,10 +1,15 @@
 -- How often an entry comes in a journal that grows by one.
-use Rattle.std.proofs.Common.{◌≡◌, ℕ, ◌+◌, Bool, true, false, List, [], ◌∷◌, ◌++◌, refl, ap, ◌∙◌, arith, Option, Some, None}
+use Rattle.std.proofs.Common.{◌≡◌, ℕ, ◌+◌, ◌≤◌, Bool, true, false, List, [], ◌∷◌, ◌++◌, refl, ap, ◌∙◌, arith, Option, Some, None}
 use Rattle.array_model.specs.declared.journal.Entry.{Entry}
 use Rattle.array_model.specs.declared.journal.Event.{Event}
 use Rattle.array_model.specs.Events.{count}
 use Rattle.array_model.proofs.Journals.{count-append}
 use Rattle.array_machine.specs.Machine.{entered}
+use Rattle.array_form.specs.StateCounts.{one_if}
+
+pub one_at_most : (b : Bool) → one_if b ≤ 1
+one_at_most true = omega arith
+one_at_most false = omega arith
 
 -- there is an entry, and it is one of these
 abbrev pub sees : (Event → Bool) → Option Event → Bool

@@ -18,3 +18,7 @@ pub mod AskNumbers
 pub mod PassStarts
 pub mod Names
 pub mod SpareCauses
+pub mod Tallies
+pub mod Points
+pub mod Short
+pub mod Words

@@ -192,7 +192,8 @@ module _ (S : Setting) (n : ℕ) (journal : List Entry) where
       goes c v ToActiveAgain (had.states v (λ readonly. cc (state, readonly))) had
   comes t c _ (idles v who runs state none) ready had = goes c v ToIdle (ready.started v runs.started) had
   comes t c _ (cleans v runs state rest) ready had = goes c v ToClean (ready.started v runs.started) had
-  comes t c _ (client k new word move) ready had = so c (ClientMoves k new word) (client_says word) had.blocked had.spare had.states had
+  comes t c _ (client k new word move) ready had =
+      so c (ClientMoves k new word) (client_says word) had.blocked had.spare had.states had
     where
       client_says : (word : ClientWord) → Says (ClientMoves k new word)
       client_says IsSilent = tt
@@ -200,7 +201,8 @@ module _ (S : Setting) (n : ℕ) (journal : List Entry) where
       client_says (Acknowledges i answer) = (tt, tt)
   comes t c _ (pass v slots new word move) ready had =
       moves c v slots new word (move_says t c v slots new word ready move) had
-  comes t c _ (manages new word move) ready had = so c (ManagerMoves new word) (update_says word) had.blocked had.spare had.states had
+  comes t c _ (manages new word move) ready had =
+      so c (ManagerMoves new word) (update_says word) had.blocked had.spare had.states had
     where
       update_says : (word : UpdateWord) → Says (ManagerMoves new word)
       update_says SaysNothing = tt

@@ -1,5 +1,5 @@
 -- In each run a pass of a volume begins at most as often as the volume is made ready and updates are applied.
-use Rattle.std.proofs.Common.{◌≡◌, ℕ, ◌<◌, ◌≤◌, ◌==◌, Bool, true, false, List, ◌++◌, length, refl, ap, sym, ◌∙◌, subst, arith, Option, Some}
+use Rattle.std.proofs.Common.{◌≡◌, ℕ, ◌<◌, ◌==◌, Bool, true, false, List, ◌++◌, length, refl, ap, sym, ◌∙◌, subst, arith, Option, Some}
 use Rattle.std.proofs.lemmas.Bool.Decides.{nat_tests}
 use Rattle.std.proofs.lemmas.List.{get_or-set_same}
 use Rattle.array_model.specs.Blocks.{Laid}
@@ -20,13 +20,9 @@ use Rattle.array_base.specs.Premises.{Premises}
 use Rattle.array_form.specs.StateCounts.{one_if}
 use Rattle.array_form.specs.RoundCounts.{just_applied}
 use Rattle.array_form.specs.Passes.{gives_others, NoneGives, just_readied, PassCounts}
-use Rattle.array_form.proofs.Counting.{sees, count_one, count_same}
+use Rattle.array_form.proofs.Counting.{sees, count_one, count_same, one_at_most}
 use Rattle.array_form.proofs.NoOthers.{GivenNone}
 use Rattle.array_form.proofs.Others.{other_seated}
-
-one_at_most : (b : Bool) → one_if b ≤ 1
-one_at_most true = omega arith
-one_at_most false = omega arith
 
 module _ (S : Setting) (P : Premises S) (v : ℕ) where
   -- ONE CHANGE

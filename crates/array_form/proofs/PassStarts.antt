@@ -63,7 +63,8 @@ module _ (S : Setting) where
       → ask_verdict S c ask ≡ EditsBook edits → ArePlainAndApt c edits
   ask_edits c fits None edits is = absurd cc
   ask_edits c fits (Some (Add d)) edits is =
-      absurd (let done = (not_refused (add_refusals S c d) (WritesSpare d) (EditsBook edits) (λ kind e. cc e) is).1 in cc done)
+      absurd (let done = (not_refused (add_refusals S c d) (WritesSpare d) (EditsBook edits) (λ kind e. cc e) is).1 in
+      cc done)
   ask_edits c fits (Some (Rename v name)) edits is =
       let passed = not_refused (rename_refusals S c v name) (EditsBook (NamesVolume v name ∷ []))
       (EditsBook edits) (λ kind e. cc e) is in

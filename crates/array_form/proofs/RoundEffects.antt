@@ -1,5 +1,5 @@
 -- Each effect keeps the counts of disks, of the monitor's lives, and of rounds.
-use Rattle.std.proofs.Common.{◌≡◌, ℕ, ◌≤◌, ◌==◌, ◌||◌, not, Bool, true, false, List, [], ◌∷◌, ◌++◌, refl, ap, sym, subst, arith, cond, Option, Some, None}
+use Rattle.std.proofs.Common.{◌≡◌, ℕ, ◌==◌, ◌||◌, not, Bool, true, false, List, [], ◌∷◌, ◌++◌, refl, ap, sym, subst, arith, cond, Option, Some, None}
 use Rattle.std.proofs.lemmas.Bool.Decides.{nat_tests}
 use Rattle.units.specs.declared.disk.Sector.{Sector}
 use Rattle.device_log.specs.Log.{Call, What}
@@ -24,13 +24,9 @@ use Rattle.array_paths.specs.Effects.{Effect, quiet, row, row_fails, steps, step
 use Rattle.array_base.proofs.Targets.{has_other}
 use Rattle.array_form.specs.StateCounts.{one_if}
 use Rattle.array_form.specs.RoundCounts.{is_killed, is_round, in_round, DiskCounts, LifeCounts, PhaseCounts, RoundCounts}
-use Rattle.array_form.proofs.Counting.{sees, count_one, count_same}
+use Rattle.array_form.proofs.Counting.{sees, count_one, count_same, one_at_most}
 
 -- PARTS OF A ROUND
-
-one_at_most : (b : Bool) → one_if b ≤ 1
-one_at_most true = omega arith
-one_at_most false = omega arith
 
 has_none : (d : ℕ) (ds : List ℕ) → has d (without d ds) ≡ false
 has_none d [] = refl

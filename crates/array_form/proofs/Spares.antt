@@ -27,7 +27,7 @@ use Rattle.array_form.specs.StateCounts.{one_if}
 use Rattle.array_form.specs.RoundCounts.{is_round, in_spare, just_applied, SpareCounts, KeepsRoundCounts}
 use Rattle.array_form.specs.Behind.{Behind}
 use Rattle.array_form.specs.Follow.{FollowsTurns}
-use Rattle.array_form.proofs.Counting.{sees, count_one, count_same}
+use Rattle.array_form.proofs.Counting.{sees, count_one, count_same, one_at_most}
 use Rattle.array_form.proofs.Uncalled.{uncalled}
 use Rattle.array_form.proofs.AlongTurns.{along_turns}
 use Rattle.array_form.proofs.Runs.{counted}
@@ -100,10 +100,6 @@ spare_stepped (Going aim m step [] late done) = refl
 spare_stepped (Going aim m AtExtended (d ∷ ds) late done) = refl
 spare_stepped (Going aim m AtAnchor (d ∷ ds) late done) = refl
 spare_stepped (Going aim m AtSync (d ∷ ds) late done) = spare_on aim m ds late true
-
-one_at_most : (b : Bool) → one_if b ≤ 1
-one_at_most true = omega arith
-one_at_most false = omega arith
 
 module _ (S : Setting) where
   module _ (prev : Option Change) (c : Control) (n : ℕ) (journal : List Entry)

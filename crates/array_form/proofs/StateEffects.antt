@@ -207,7 +207,7 @@ module _ (S : Setting) (v n : ℕ) (journal : List Entry) where
   moves : (c : Control) (k : ℕ) (new : Client) (word : ClientWord) → ClientMove S c k new word → ToldIn c journal
       → ToldBehind c (ClientMoves k new word)
   moves c k _ _ (submits i rest left none) s = submitted c k i (with_job rest (Submitted i)) (write_in_volume S v i) s
-  moves c k _ _ (takes i rest left none reads fits) s =
+  moves c k _ _ (takes i rest left none reads fits ready_now) s =
       let not_one : is_write_in S.asked.ops v i ≡ false =
       sym (write_in_volume S v i) ∙ ap (λ b. b && (volume_of S i == v)) reads in
       submitted c k i _ (sym not_one) s

@@ -9,3 +9,4 @@ pub mod SmallForm
 pub mod PassStarts
 pub mod Names
 pub mod SpareCauses
+pub mod Short

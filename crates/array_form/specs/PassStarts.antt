@@ -26,8 +26,8 @@ abbrev pub IsReadyOf : ℕ → ℕ → Option Entry → Type 0
 IsReadyOf v stamp None = ⊥
 IsReadyOf v stamp (Some e) = (e.stamp ≡ stamp) × (is_ready v e.event ≡ true)
 
--- an update was applied whose number isn't below the number of asks, and there is a spare: some disk was one at opening,
--- or an ask makes one
+-- an update was applied whose number isn't below the number of asks, and there is a spare: some disk was one at
+-- opening, or an ask makes one
 pub record WasActivated (start : Start) (asked : Asked) (front : List Entry) : Type 0 where
   pub number : has (is_applied_from (length asked.asks)) front ≡ true
   pub spare : has_spare start asked ≡ true

@@ -1,10 +1,12 @@
 -- How often a pass of a volume begins: one where the volume is made ready, and one for each update that was applied,
 -- since a spare that is activated is rebuilt. Source: imsm_process_update of super-intel.c and sync_action of the
 -- kernel's md.rst; that a pass begins with the end of its round is this project's own.
-use Rattle.std.specs.Prelude.{◌≡◌, ℕ, ◌+◌, ◌≤◌, ◌==◌, Bool, true, false, List, Option, Some}
+use Rattle.std.specs.Prelude.{◌≡◌, ℕ, ◌+◌, ◌≤◌, ◌==◌, ◌&&◌, Bool, true, false, List, Option, Some}
 use Rattle.array_model.specs.declared.journal.Entry.{Entry}
+use Rattle.array_model.specs.declared.journal.Event.{Event}
+use Rattle.array_model.specs.declared.journal.Event.TheVariants.{Point}
 use Rattle.array_model.specs.Blocks.{Laid}
-use Rattle.array_model.specs.Events.{count, is_ready, is_pass, is_applied}
+use Rattle.array_model.specs.Events.{count, is_end, is_ready, is_pass, is_pass_end, is_applied}
 use Rattle.array_machine.specs.Setting.{Setting}
 use Rattle.array_machine.specs.States.{ToReady}
 use Rattle.array_machine.specs.Volumes.{Slot}
@@ -15,16 +17,39 @@ use Rattle.array_paths.specs.PassMove.{slots_of}
 use Rattle.array_base.specs.Premises.{generation_of}
 use Rattle.array_form.specs.StateCounts.{one_if}
 use Rattle.array_form.specs.RoundCounts.{just_applied}
-use Rattle.array_form.specs.Behind.{is_loud, goes_on}
+use Rattle.array_form.specs.Behind.{is_loud, goes_on, awaits}
 
--- THE LAW
+-- THE LAWS
+
+-- a point of the volume
+abbrev pub is_point : ℕ → Event → Bool
+is_point v (Point w unit) = w.0 == v
+is_point v _ = false
 
 -- of each volume
 abbrev pub KeepsPassCounts : List Entry → Type 0
 KeepsPassCounts journal =
     (v : ℕ) → count (is_pass v) journal ≤ count (is_ready v) journal + count is_applied journal
 
+-- points, ends and beginnings of passes, against the ends of rounds and the volume's ready
+abbrev pub TellsOfPassesOnce : List Entry → Type 0
+TellsOfPassesOnce journal =
+    (v : ℕ) → count (is_point v) journal + count (is_pass_end v) journal + count (is_pass v) journal
+    ≤ count is_end journal + count (is_ready v) journal
+
 -- WHAT A RUN KEEPS
+
+-- the volume was made ready by the last change of this turn
+abbrev pub just_readied : ℕ → Option Change → Bool
+just_readied v (Some (StateGoes w ToReady)) = w == v
+just_readied v _ = false
+
+-- a word on the volume's pass is still owed: behind the end of a round, or behind its ready
+abbrev pub WordsCount : (before : Control) → (v : ℕ) → Option Change → List Entry → Type 0
+WordsCount b v prev journal =
+    count (is_point v) journal + count (is_pass_end v) journal + count (is_pass v) journal
+    + one_if (goes_on b.round.phase && awaits v prev) + one_if (just_readied v prev)
+    ≤ count is_end journal + count (is_ready v) journal
 
 -- the block gives some slot of the volume another disk than it has
 abbrev pub gives_others : Setting → Laid → ℕ → List Slot → Bool
@@ -38,11 +63,6 @@ pub record GivesNoOthers (S : Setting) (v : ℕ) (slots : List Slot) (book last 
 
 abbrev pub NoneGives : Setting → ℕ → Control → Type 0
 NoneGives S v c = GivesNoOthers S v (slots_of c v) c.round.book c.round.last c.round.given
-
--- the volume was made ready by the last change of this turn
-abbrev pub just_readied : ℕ → Option Change → Bool
-just_readied v (Some (StateGoes w ToReady)) = w == v
-just_readied v _ = false
 
 -- One pass more may begin for an activation whose round hasn't ended. Where none may, no block gives other disks.
 pub record PassCounts (S : Setting) (v : ℕ) (prev : Option Change) (c : Control) (journal : List Entry) : Type 0 where

@@ -1,9 +1,10 @@
 -- Small journals that runs don't make: each breaks one of the counts, or the order of one turn. Source: this project's
 -- own.
 use Rattle.std.specs.Prelude.{◌==◌, List, [], ◌∷◌}
+use Rattle.std.specs.List.{repeat}
 use Rattle.units.specs.declared.disk.DiskNo.{DiskNo}
 use Rattle.array_model.specs.declared.journal.Entry.{Entry}
-use Rattle.array_model.specs.declared.journal.Event.TheVariants.{Begin, End, Ready, Pass, Posted, Applied, Submit, Pending, Fault}
+use Rattle.array_model.specs.declared.journal.Event.TheVariants.{Begin, End, Ready, Pass, Point, Posted, Applied, Submit, Pending, Fault}
 use Rattle.array_model.specs.Start.{Start}
 use Rattle.array_model.specs.Small.{the_volume, at, small_start}
 
@@ -36,6 +37,10 @@ passing_journal =
 abbrev pub twice_passed : List Entry
 twice_passed = at 4 (Ready the_volume) ∷ at 4 (Pass the_volume 0) ∷ at 9 (Pass the_volume 0) ∷ []
 
+-- one round ends, and two points are told
+abbrev pub twice_told : List Entry
+twice_told = at 4 (End 2) ∷ at 4 (Point the_volume 0) ∷ at 4 (Point the_volume 8) ∷ []
+
 -- the volume waits once more, in a turn that submits nothing
 abbrev pub waits_on_its_own : List Entry
 waits_on_its_own = at 4 (Ready the_volume) ∷ at 4 (Submit 0) ∷ at 5 (Pending the_volume) ∷ []
@@ -43,3 +48,7 @@ waits_on_its_own = at 4 (Ready the_volume) ∷ at 4 (Submit 0) ∷ at 5 (Pending
 -- a third disk fails, of two
 abbrev pub names_a_third : List Entry
 names_a_third = at 3 (Fault (record { 0 = 2 })) ∷ []
+
+-- round after round begins
+abbrev pub endless_journal : List Entry
+endless_journal = repeat 145 (at 0 (Begin 2) ∷ [])

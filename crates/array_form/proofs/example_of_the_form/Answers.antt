@@ -9,3 +9,6 @@ returns-clause-twice_failed c h = let twice : 2 ≤ 1 = (h.disks 1).fault in ome
 
 pub returns-clause-twice_passed : goal.returns-clause-twice_passed
 returns-clause-twice_passed c h = let twice : 2 ≤ 1 = h 0 in omega (arith, twice)
+
+pub returns-clause-twice_told : goal.returns-clause-twice_told
+returns-clause-twice_told c h = let twice : 2 ≤ 1 = h 0 in omega (arith, twice)
