@@ -23,7 +23,7 @@ use Rattle.array_machine.specs.ClientTurns.{asks_unless, begins_job, submit_at, 
 use Rattle.array_base.proofs.Targets.{or_neither}
 use Rattle.units.specs.declared.disk.Sector.{Sector}
 use Rattle.array_paths.specs.InTurn.{job_of}
-use Rattle.array_paths.specs.ClientMove.{fits_kind, fits_op}
+use Rattle.array_paths.specs.ClientMove.{NamesSector, fits_kind, fits_op}
 use Rattle.array_paths.proofs.ClientPaths.{job_kept}
 use Rattle.array_base.proofs.Slots.{volume_set}
 use Rattle.array_rest.specs.Between.{Kept, TurnEnds, TurnIsOver}
@@ -108,7 +108,7 @@ module _ (S : Setting) (c : Control) (kept : Kept S c) (ends : TurnIsOver S c) (
   -- its job begins on a volume that takes operations
   begun_goes : (e : Control) (i : ℕ) → is_shut (volume_at e.volumes (volume_of S i)) ≡ false
       → JobGoes S e k i no_row
-  begun_goes e i shut = record { open_to = λ old. shut; plan = λ able slots old plan is. absurd (cc is) }
+  begun_goes e i shut = record { open_to = λ old. shut; names = λ begun. absurd cc; plan = λ able slots old plan is. absurd (cc is) }
 
   -- a word to a state doesn't shut its volume
   shut_set : (volumes : List Volume) (v : ℕ) (word : StateWord) → is_shut (volume_at volumes v) ≡ false
@@ -193,7 +193,7 @@ module _ (S : Setting) (c : Control) (kept : Kept S c) (ends : TurnIsOver S c) (
   answer_made i left word = next (ClientMoves k (with_job left NoJob) word) (tt, tt) (over (moved_over left NoJob (λ j bad. cc bad)))
 
   module _ (left : List ℕ) (i : ℕ) (r : Row) (has_it : job_of c k ≡ Busy i r)
-      (some : fits_op S i ≡ true → place_at S i ≡ None → ⊥)
+      (some : fits_op S i ≡ true → place_at S i ≡ None → ⊥) (sector : NamesSector (kind_at S.asked.ops i))
       (free : is_locked S c (volume_of S i) (the_place S i).row k ≡ false) where
     abbrev now : Row
     now = row_tried S c i r
@@ -210,6 +210,7 @@ module _ (S : Setting) (c : Control) (kept : Kept S c) (ends : TurnIsOver S c) (
     went_goes : (need : Need) (y : Sector) → JobGoes S c k i (went_on need y now)
     went_goes need y = record {
       open_to = λ old. old r has_it;
+      names = λ begun. sector;
       plan = λ able slots old.
           let before = old r has_it in
           went_stands c.round.faults (volume_at c.volumes (volume_of S i)) need y now
@@ -219,6 +220,7 @@ module _ (S : Setting) (c : Control) (kept : Kept S c) (ends : TurnIsOver S c) (
     lost_goes : (d : ℕ) → JobGoes S (put S (DiskFails d) c) k i (lost_row now.plan now)
     lost_goes d = record {
       open_to = λ old. old _ (job_kept S d c.volumes c.clients k ∙ ap (job_without S d c.volumes) has_it);
+      names = λ begun. sector;
       plan = λ able slots old.
           lost_stands (d ∷ c.round.faults) (volume_at (put S (DiskFails d) c).volumes (volume_of S i)) now _ refl;
     }
@@ -246,10 +248,11 @@ module _ (S : Setting) (c : Control) (kept : Kept S c) (ends : TurnIsOver S c) (
         at false = over ends
 
   module _ (left : List ℕ) (i : ℕ) (r : Row) (has_it : job_of c k ≡ Busy i r) where
-    meet_made : (x : Ended) (held : Bool) → (fits_op S i ≡ true → place_at S i ≡ None → ⊥) → is_held S c k i ≡ held
+    meet_made : (x : Ended) (held : Bool) → (fits_op S i ≡ true → place_at S i ≡ None → ⊥)
+        → NamesSector (kind_at S.asked.ops i) → is_held S c k i ≡ held
         → Turns S c (meet S c k left i r x (need_unless S c i r held)).changes
-    meet_made x true some is = over ends
-    meet_made x false some is = at (need_unless S c i r false)
+    meet_made x true some sector is = over ends
+    meet_made x false some sector is = at (need_unless S c i r false)
       where
         free : is_locked S c (volume_of S i) (the_place S i).row k ≡ false
         free =
@@ -258,9 +261,9 @@ module _ (S : Setting) (c : Control) (kept : Kept S c) (ends : TurnIsOver S c) (
 
         at : (need : Need) → Turns S c (meet S c k left i r x need).changes
         at NoNeed = over ends
-        at (Reads s) = on_made left i r has_it some free x (Reads s) (source_in (the_volume S c i) s)
-        at (Writes s) = on_made left i r has_it some free x (Writes s) (disk_in (the_volume S c i).slots s)
-        at (Syncs s) = on_made left i r has_it some free x (Syncs s) (disk_in (the_volume S c i).slots s)
+        at (Reads s) = on_made left i r has_it some sector free x (Reads s) (source_in (the_volume S c i) s)
+        at (Writes s) = on_made left i r has_it some sector free x (Writes s) (disk_in (the_volume S c i).slots s)
+        at (Syncs s) = on_made left i r has_it some sector free x (Syncs s) (disk_in (the_volume S c i).slots s)
         at (Answers answer) = answer_made i left (Acknowledges i answer)
 
     whole_made : (whole without_spare : Bool) → Turns S c (whole_answer k left i whole without_spare).changes
@@ -279,8 +282,8 @@ module _ (S : Setting) (c : Control) (kept : Kept S c) (ends : TurnIsOver S c) (
     busy_made : (x : Ended) (kind : Option OpKind) → kind_at S.asked.ops i ≡ kind
         → Turns S c (busy_kind S c k left i r x kind).changes
     busy_made x None is = over ends
-    busy_made x (Some (OpWrite v s value)) is = meet_made x (is_held S c k i) (has_place _ is refl) refl
-    busy_made x (Some (OpRead v s)) is = meet_made x (is_held S c k i) (has_place _ is refl) refl
+    busy_made x (Some (OpWrite v s value)) is = meet_made x (is_held S c k i) (has_place _ is refl) (subst NamesSector (sym is) tt) refl
+    busy_made x (Some (OpRead v s)) is = meet_made x (is_held S c k i) (has_place _ is refl) (subst NamesSector (sym is) tt) refl
     busy_made x (Some (OpWhole v)) is = whole_made (is_whole_now S c v.0) (is_without_spare S c v.0)
 
     broken_made : (x : Ended) (broken : Bool) → Turns S c (busy_unless S c k left i r x broken).changes

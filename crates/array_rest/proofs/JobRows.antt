@@ -127,7 +127,7 @@ module _ (S : Setting) (c : Control) (i : ℕ) where
   x = volume_at c.volumes (volume_of S i)
 
   -- the place of a write or a read is inside
-  inside : fits_op S i ≡ true → (place_at S i ≡ None → ⊥) → IsInside (shape_of S v).level (shape_of S v) (the_place S i)
+  pub inside : fits_op S i ≡ true → (place_at S i ≡ None → ⊥) → IsInside (shape_of S v).level (shape_of S v) (the_place S i)
   inside fits some = at (place_at S i) refl
     where
       at : (place : Option Placement) → place_at S i ≡ place → IsInside (shape_of S v).level (shape_of S v) (the_place S i)

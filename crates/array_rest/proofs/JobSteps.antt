@@ -23,6 +23,7 @@ use Rattle.array_base.proofs.Slots.{volume_set}
 use Rattle.array_rest.specs.Between.{IsFine, JobIsFine}
 use Rattle.array_rest.specs.Jobs.{may_use, sees, IsOutrun, PlanStands, JobGoes, JobStands, JobsStand}
 use Rattle.array_rest.specs.Seats.{HasSeat, BlocksSeat}
+use Rattle.array_rest.proofs.Failures.{lost_begun}
 use Rattle.array_rest.proofs.JobEnds.{same_used, end_used, end_shut}
 use Rattle.array_rest.proofs.JobRows.{lost_stands}
 use Rattle.array_rest.proofs.Parts.{client_set, elsewhere, member_kept, volume_failed}
@@ -41,6 +42,7 @@ module _ (S : Setting) (P : Premises S) (A : Type 0) (c : Control) (jobs : JobsS
       → JobsStand S A e
   framed_jobs e clients faults frames shuts k i r is = record {
     open_to = shuts (volume_of S i) old.open_to;
+    names = old.names;
     plan = λ a started sound.
         let frame = frames (volume_of S i) in
         subst (λ ds. PlanStands ds (volume_at e.volumes (volume_of S i)) r) (sym faults)
@@ -84,12 +86,13 @@ module _ (S : Setting) (P : Premises S) (A : Type 0) (c : Control) (jobs : JobsS
   moved_jobs seated fits j new word fine k i r is = elim (client_set c.clients j new k) [
     | inl here ↦
         goes (subst (JobIsFine S c j) (sym (ap (λ (x : Client). x.job) here.1) ∙ is) fine)
-    | inr old ↦ let had = jobs k i r (sym (ap (λ (x : Client). x.job) old) ∙ is) in record { open_to = had.open_to; plan = had.plan }
+    | inr old ↦ let had = jobs k i r (sym (ap (λ (x : Client). x.job) old) ∙ is) in record { open_to = had.open_to; names = had.names; plan = had.plan }
   ]
     where
       goes : JobGoes S c j i r → JobStands S A (put S (ClientMoves j new word) c) k i r
       goes g = record {
         open_to = g.open_to (λ before has_it. (jobs j i before has_it).open_to);
+        names = g.names;
         plan = λ a started sound.
             let run = seated.run a in
             g.plan (run.able (volume_of S i) started sound) (run.slots (volume_of S i) started)
@@ -144,12 +147,15 @@ module _ (S : Setting) (P : Premises S) (A : Type 0) (c : Control) (jobs : JobsS
           → cond has_it (lost_row old.plan old) old ≡ r → JobStands S A e k i r
       made old was true has_it same = record {
         open_to = fault_shut d (volume_of S i) (jobs k i old was).open_to;
+        names = λ begun. (jobs k i old was).names
+            (sym (lost_begun old.plan old) ∙ ap (λ (z : Row). z.begun) same ∙ begun);
         plan = λ a started sound.
             subst (PlanStands (d ∷ c.round.faults) (volume_at e.volumes (volume_of S i))) same
             (lost_plan (d ∷ c.round.faults) (volume_at e.volumes (volume_of S i)) old old.plan refl);
       }
       made old was false none same = record {
         open_to = fault_shut d (volume_of S i) (jobs k i old was).open_to;
+        names = λ begun. (jobs k i old was).names (ap (λ (z : Row). z.begun) same ∙ begun);
         plan = λ a started sound.
             let frame = fault_frame S c d (volume_of S i) in
             let x = volume_at c.volumes (volume_of S i) in
@@ -237,6 +243,7 @@ module _ (S : Setting) (P : Premises S) (A : Type 0) (c : Control) (jobs : JobsS
           let old = jobs k i r is in
           record {
             open_to = ap is_shut to.is ∙ end_shut S P c.round.faults c.round.last m v x to.made to.by ∙ old.open_to;
+            names = old.names;
             plan = λ a started sound.
                 let was = sym (ap (λ (y : Volume). y.started) to.is
                 ∙ end_started S c.round.faults c.round.last m v x to.made to.by) ∙ started in

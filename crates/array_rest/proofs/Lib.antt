@@ -24,3 +24,8 @@ pub mod Inside
 pub mod JobRows
 pub mod JobEnds
 pub mod JobSteps
+pub mod JobRuns
+pub mod JobsRest
+pub mod PassWork
+pub mod PassRest
+pub mod Stopped

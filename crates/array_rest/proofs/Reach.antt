@@ -98,7 +98,7 @@ no_jobs f none a (suc n) zero = none a
 no_jobs f none a (suc n) (suc k) = no_jobs f none (a + 1) n k
 
 module _ (S : Setting) where
-  idle_at_first : (k : ℕ) → (client_at (clients_of S) k).job ≡ NoJob
+  pub idle_at_first : (k : ℕ) → (client_at (clients_of S) k).job ≡ NoJob
   idle_at_first k = no_jobs (λ j. with_job (ops_of S.asked.ops j) NoJob) (λ j. refl) 0 CLIENTS k
 
   none_holds : (v row k : ℕ) → holds S v row (client_at (clients_of S) k).job ≡ true → ⊥

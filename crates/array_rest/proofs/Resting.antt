@@ -265,4 +265,5 @@ module _ (S : Setting) (c : Control) (ends : Actor → Ended) (rest : IsAtRest S
           (λ i is. subst (IsQueued i) no_update (kept.queued i is))
           (λ i is. over.applied (rest_phase over stands) i is);
       activation = no_ask.1;
+      owes = no_edits;
     }

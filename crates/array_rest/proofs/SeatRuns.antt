@@ -36,17 +36,17 @@ use Rattle.array_rest.proofs.Turns.{Turns, next, round_ends}
 use Rattle.array_rest.proofs.Reach.{turn_made, each_leaves}
 
 module _ (S : Setting) (P : Premises S) (A : Type 0) where
-  abbrev SeatedIn : Control → Type 0
+  abbrev pub SeatedIn : Control → Type 0
   SeatedIn c = Seated S P.edits.formed A c
 
   -- THE END OF A ROUND
 
-  phase_of : (t : InTurn) (c : Control) (m : Laid) → Comes S t c (RoundEnds m) ⊎ IsOfCall (RoundEnds m)
+  pub phase_of : (t : InTurn) (c : Control) (m : Laid) → Comes S t c (RoundEnds m) ⊎ IsOfCall (RoundEnds m)
       → (step : Step) × (c.round.phase ≡ Going OfRound m step [] [] true)
   phase_of t c m (inl (ends _ step is)) = (step, is)
   phase_of t c m (inr bad) = absurd bad
 
-  seated_end : (c : Control) (m : Laid) (step : Step) → c.round.phase ≡ Going OfRound m step [] [] true → SeatedIn c
+  pub seated_end : (c : Control) (m : Laid) (step : Step) → c.round.phase ≡ Going OfRound m step [] [] true → SeatedIn c
       → SeatedIn (puts S (all_runs (runs S c m)) (put S (RoundEnds m) c))
   seated_end c m step phase h =
       subst SeatedIn (sym (runs_only S (runs S c m) (put S (RoundEnds m) c))) (record {
@@ -80,7 +80,7 @@ flips true h = absurd (cc h)
 flips false h = refl
 
 module _ (S : Setting) (P : Premises S) (volumes : List Volume) (spares : List ℕ) (o : Opening S P volumes spares) where
-  abbrev Able : Type 0
+  abbrev pub Able : Type 0
   Able = OpensAble S volumes
 
   slots_opened : (v : ℕ) → (volume_at volumes v).started ≡ true
@@ -110,7 +110,7 @@ module _ (S : Setting) (P : Premises S) (volumes : List Volume) (spares : List �
       (and_parts found.0.is_in_sync (not (has_serial found.0.serial S.start.counts_out)) in_sync).1 in
       ap (λ z. has_serial z S.start.counts_out) (sym serial) ∙ out
 
-  seated_at_first : Seated S P.edits.formed Able (begins_at S volumes spares).control
+  pub seated_at_first : Seated S P.edits.formed Able (begins_at S volumes spares).control
   seated_at_first = record {
     blocks = record {
       may_book = o.newest;

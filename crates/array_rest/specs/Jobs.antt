@@ -2,6 +2,7 @@
 -- project's own.
 use Rattle.std.specs.Prelude.{◌≡◌, ℕ, Bool, true, false, List, [], slice_get, Some, ◌⊎◌, if◌then◌else◌}
 use Rattle.std.specs.Option.{option_map_or}
+use Rattle.array_model.specs.Script.{kind_at}
 use Rattle.array_machine.specs.Setting.{Setting}
 use Rattle.array_machine.specs.Numbers.{has}
 use Rattle.array_machine.specs.Volumes.{Slot, slot_at, same_disk, is_usable, member_of, Volume, volume_at}
@@ -11,7 +12,7 @@ use Rattle.array_machine.specs.Control.{Control}
 use Rattle.array_machine.specs.RowJobs.{unread}
 use Rattle.array_machine.specs.ClientTurns.{is_shut}
 use Rattle.array_paths.specs.InTurn.{job_of}
-use Rattle.array_paths.specs.ClientMove.{fits_op}
+use Rattle.array_paths.specs.ClientMove.{NamesSector, fits_op}
 use Rattle.array_rest.specs.Seats.{RunsOn, HasSlots}
 
 -- a slot is in sync, on a disk without a fault
@@ -36,10 +37,12 @@ PlanStands faults x r =
     → (may_use faults x.slots s ≡ true) ⊎ IsOutrun faults x.slots r
 
 module _ (S : Setting) where
-  -- A job of client k that is set: its volume takes operations, and its plan stands, if that holds of the job before it.
+  -- A job of client k that is set: its volume takes operations, and its plan stands, if that holds of the job before it;
+  -- one that has begun reads or writes a sector.
   pub record JobGoes (c : Control) (k i : ℕ) (r : Row) : Type 0 where
     pub open_to : ((before : Row) → job_of c k ≡ Busy i before → is_shut (volume_at c.volumes (volume_of S i)) ≡ false)
         → is_shut (volume_at c.volumes (volume_of S i)) ≡ false
+    pub names : r.begun ≡ true → NamesSector (kind_at S.asked.ops i)
     pub plan : RunsOn S c.round.faults (volume_of S i) (volume_at c.volumes (volume_of S i))
         → HasSlots S (volume_of S i) (volume_at c.volumes (volume_of S i))
         → ((before : Row) → job_of c k ≡ Busy i before
@@ -49,6 +52,7 @@ module _ (S : Setting) where
   -- each job that goes on is on a volume that takes operations, and stands while that isn't broken
   pub record JobStands (A : Type 0) (c : Control) (k i : ℕ) (r : Row) : Type 0 where
     pub open_to : is_shut (volume_at c.volumes (volume_of S i)) ≡ false
+    pub names : r.begun ≡ true → NamesSector (kind_at S.asked.ops i)
     pub plan : A → (volume_at c.volumes (volume_of S i)).started ≡ true
         → (volume_at c.volumes (volume_of S i)).broken ≡ false
         → PlanStands c.round.faults (volume_at c.volumes (volume_of S i)) r

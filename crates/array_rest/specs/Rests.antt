@@ -1,14 +1,22 @@
 -- Where a run has come to rest: the monitor lives, and nobody whose turn a run goes on by has anything to do. Source:
 -- this project's own.
-use Rattle.std.specs.Prelude.{⊤, ◌≡◌, ℕ, true, false, [], None}
+use Rattle.std.specs.Prelude.{⊤, ◌≡◌, ℕ, true, false, List, [], ◌∷◌, Some, None}
+use Rattle.units.specs.declared.volume.VolNo.{VolNo}
+use Rattle.array_model.specs.declared.script.OpKind.TheVariants.{Whole}
+use Rattle.array_model.specs.Script.{kind_at}
 use Rattle.array_machine.specs.Setting.{Setting}
 use Rattle.array_machine.specs.Numbers.{has}
-use Rattle.array_machine.specs.Volumes.{volume_at}
+use Rattle.array_machine.specs.States.{is_resting}
+use Rattle.array_machine.specs.Volumes.{Pass, volume_at}
+use Rattle.array_machine.specs.Operations.{volume_of}
+use Rattle.array_machine.specs.Clients.{Row, NoJob, Busy}
 use Rattle.array_machine.specs.Rounds.{Ended, Lives, Rest, Round, expects}
 use Rattle.array_machine.specs.Control.{Control}
 use Rattle.array_machine.specs.Turns.{Turn}
-use Rattle.array_machine.specs.ClientTurns.{are_settled}
-use Rattle.array_machine.specs.MonitorTurns.{Nothing, deed_of}
+use Rattle.array_machine.specs.ClientTurns.{are_settled, is_whole_now, is_without_spare}
+use Rattle.array_paths.specs.InTurn.{job_of, left_of}
+use Rattle.array_rest.specs.Jobs.{IsOutrun}
+use Rattle.array_machine.specs.MonitorTurns.{Nothing, deed_of, due_edits}
 use Rattle.array_machine.specs.ManagerTurns.{activation}
 use Rattle.array_base.specs.Premises.{generation_of}
 use Rattle.array_base.specs.Base.{ledger, IsTrusted}
@@ -40,7 +48,8 @@ pub record SomeIsTrusted (S : Setting) (r : Round) : Type 0 where
 
 -- Nothing goes on, and nothing is due: a round has ended since the opening or the last takeover, the book is its block
 -- and has the highest generation begun, each failure is recorded there and no disk is blocked any more; no update is on
--- its way, each ask has come to its end, and no spare could take the place of a failed disk.
+-- its way, each ask has come to its end, no spare could take the place of a failed disk, and the book owes nothing to
+-- the volumes.
 pub record NothingIsDue (S : Setting) (c : Control) : Type 0 where
   pub phase : c.round.phase ≡ Rest
   pub deed : deed_of S c ≡ Nothing
@@ -52,8 +61,40 @@ pub record NothingIsDue (S : Setting) (c : Control) : Type 0 where
   pub queue : c.manager.queue ≡ []
   pub asks : are_settled c.manager.asks ≡ true
   pub activation : activation S c ≡ None
+  pub owes : due_edits S c ≡ []
 
 -- a volume that was started and isn't broken
 pub record IsSound (c : Control) (v : ℕ) : Type 0 where
   pub started : (volume_at c.volumes v).started ≡ true
   pub sound : (volume_at c.volumes v).broken ≡ false
+
+-- CLIENTS
+
+-- a job that holds a row was outrun
+pub record SomeIsOutrun (S : Setting) (c : Control) : Type 0 where
+  pub client : ℕ
+  pub op : ℕ
+  pub row : Row
+  pub is : job_of c client ≡ Busy op row
+  pub outrun : IsOutrun c.round.faults (volume_at c.volumes (volume_of S op)).slots row
+
+-- A client has had all its operations answered; the next one names a volume that wasn't started; it waits for a volume
+-- to be whole that isn't; or the rows are held by a job that was outrun.
+pub data ClientRests (S : Setting) (c : Control) (k : ℕ) : Type 0 where
+  is_done : job_of c k ≡ NoJob → left_of c k ≡ [] → ClientRests S c k
+  is_shut_out : (i : ℕ) (more : List ℕ) → job_of c k ≡ NoJob → left_of c k ≡ i ∷ more
+      → (volume_at c.volumes (volume_of S i)).started ≡ false → ClientRests S c k
+  waits_for_whole : (i : ℕ) (r : Row) (v : VolNo) → job_of c k ≡ Busy i r → kind_at S.asked.ops i ≡ Some (Whole v)
+      → is_whole_now S c v.0 ≡ false → is_without_spare S c v.0 ≡ false → ClientRests S c k
+  is_outrun : SomeIsOutrun S c → ClientRests S c k
+
+-- VOLUMES
+
+-- It is read-auto or clean, the last finished round says that it is clean, and a pass of it is over, of which that round
+-- says nothing any more; or the rows are held by a job that was outrun.
+pub data VolumeRests (S : Setting) (c : Control) (v : ℕ) : Type 0 where
+  is_clean : is_resting (volume_at c.volumes v).state ≡ true → S.start.words.is_dirty c.round.last v ≡ false
+      → ((p : Pass) → (volume_at c.volumes v).pass ≡ Some p
+      → (p.over ≡ true) × (S.start.words.pass c.round.last v ≡ None))
+      → VolumeRests S c v
+  goes_on : SomeIsOutrun S c → VolumeRests S c v
