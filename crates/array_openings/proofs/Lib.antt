@@ -11,3 +11,9 @@ pub mod Rests
 pub mod EditedBanks
 pub mod NewBanks
 pub mod WorkedBanks
+pub mod Slots
+pub mod RowsHeld
+pub mod EditedVolumes
+pub mod NewVolumes
+pub mod RefusedSettings
+pub mod Able

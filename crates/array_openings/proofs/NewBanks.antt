@@ -36,7 +36,7 @@ pub record IsDiskAt (disks : List NewDisk) (i : ℕ) (x : NewDisk) : Type 0 wher
   pub there : slice_get disks i ≡ Some x
 
 -- a disk of the container has its number among all
-serial_at : (disks others : List NewDisk) (i : ℕ) (x : NewDisk) → IsDiskAt disks i x
+pub serial_at : (disks others : List NewDisk) (i : ℕ) (x : NewDisk) → IsDiskAt disks i x
     → serial_in (disks ++ others) i ≡ x.serial.0
 serial_at disks others i x at =
     let inside : i < length (disks ++ others) =
@@ -61,10 +61,10 @@ sectors_at disks others i x at =
 abbrev records_of : List NewDisk → List Part
 records_of disks = map disk_part disks
 
-abbrev IsFound : List NewDisk → List ℕ → Type 0
+abbrev pub IsFound : List NewDisk → List ℕ → Type 0
 IsFound disks serial = (i : ℕ) × (x : NewDisk) × IsDiskAt disks i x × (x.serial.0 ≡ serial)
 
-found_in : (disks : List NewDisk) (serial : List ℕ) → list_any (expects_serial serial) (records_of disks) ≡ true
+pub found_in : (disks : List NewDisk) (serial : List ℕ) → list_any (expects_serial serial) (records_of disks) ≡ true
     → IsFound disks serial
 found_in [] serial has = absurd (false≢true has)
 found_in (x ∷ xs) serial has =
@@ -80,7 +80,7 @@ module _ (made : NewContainer) (disks : List NewDisk) (can : CanCreate made disk
   abbrev block : Laid
   block = laid_of (created_bytes made disks)
 
-  parts_are : parts_of block ≡ created_block made disks
+  pub parts_are : parts_of block ≡ created_block made disks
   parts_are =
       let whole : IsWholeBlock (created_bytes made disks) (created_block made disks) =
       created_whole made disks can (recursion_from_All IsDisk disks typed) in
@@ -92,7 +92,7 @@ module _ (made : NewContainer) (disks : List NewDisk) (can : CanCreate made disk
   unfolding created_block block_with
   records_are = refl
 
-  expects_is : (serial : List ℕ) → block_words.expects block serial
+  pub expects_is : (serial : List ℕ) → block_words.expects block serial
       ≡ list_any (expects_serial serial) (records_of disks)
   expects_is serial =
       ap (λ (b : Block). has_serial (expected_serials b) serial) parts_are
@@ -109,7 +109,7 @@ module _ (made : NewContainer) (disks : List NewDisk) (can : CanCreate made disk
       some : (n : ℕ) → (if 1 + n == 0 then false else true) ≡ true
       some n = ap (λ (t : Bool). if t then false else true) (ne_eqb (1 + n) 0 (λ same. omega (arith, same)))
 
-few_of : (second : Option NewVolume) → 1 + second_count second ≤ 2
+pub few_of : (second : Option NewVolume) → 1 + second_count second ≤ 2
 few_of None = omega arith
 few_of (Some v) = omega arith
 

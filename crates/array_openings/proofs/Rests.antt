@@ -37,7 +37,7 @@ module _ (k : Bank) (rest : IsAtRest k) where
   abbrev S : Setting
   S = setting_of_bank k
 
-  real : IsReal S
+  pub real : IsReal S
   real = record {
     reads = reads_blocks;
     edits = λ f m e. refl;
@@ -58,7 +58,7 @@ module _ (k : Bank) (rest : IsAtRest k) where
   pub whole : IsWholeOnItsDisks S k.block
   whole d expected = rest.whole d (named S over k.block d rest.formed expected) expected
 
-  fits : FitsEnd block_words k.block
+  pub fits : FitsEnd block_words k.block
   fits = let p = placed S k.block real rest.formed in record { extra = p.0; few = p.1 }
 
   room_on : (serial : List ℕ) (n : ℕ) (m : Laid) → block_words.is_whole serial n m ≡ true → 18 ≤ n
@@ -123,7 +123,7 @@ module _ (k : Bank) (rest : IsAtRest k) where
       omega (arith, none, given, least)
 
   -- a disk that holds a container's block holds this one
-  first_is : (d : ℕ) → HoldsContainer S d → first_at S d ≡ k.block
+  pub first_is : (d : ℕ) → HoldsContainer S d → first_at S d ≡ k.block
   first_is d holds = at (expects S k.block d) refl (has d k.spares) refl
     where
       at : (t : Bool) → expects S k.block d ≡ t → (u : Bool) → has d k.spares ≡ u → first_at S d ≡ k.block
@@ -143,7 +143,7 @@ module _ (k : Bank) (rest : IsAtRest k) where
       placed_test : is_formed S.start k.block ≡ true
           → (is_full k.block.anchor && list_all is_full k.block.extended
           && (block_words.extra k.block.anchor == length k.block.extended)) ≡ true
-      placed_test formed = (and_parts _ _ (and_parts _ _ (and_parts _ _ formed).0).0).0
+      placed_test formed = (and_parts _ _ (and_parts _ _ (and_parts _ _ (and_parts _ _ formed).0).0).0).0
 
   full : (d p : ℕ) → length (S.start.disks.opening d p).0 ≡ 512
   full d p = with_full (stands_on k d) (sectors_in k.disks d) p (at (expects S k.block d) refl (has d k.spares))

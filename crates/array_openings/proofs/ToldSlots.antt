@@ -21,7 +21,7 @@ use Rattle.array_edits.proofs.Meant.{says}
 use Rattle.array_openings.proofs.Seated.{IsExpectedRecord, expected_there}
 
 -- the block expects the serial of a record that is expected
-serial_expected : (b : Block) (m : Member) → is_expected_at b m.index ≡ true
+pub serial_expected : (b : Block) (m : Member) → is_expected_at b m.index ≡ true
     → has_serial (expected_serials b) (slot_words b m).serial ≡ true
 serial_expected b m expected =
     let serial : List ℕ = (slot_words b m).serial in

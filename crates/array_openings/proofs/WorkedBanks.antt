@@ -1,8 +1,9 @@
 -- The worked banks are at rest.
-use Rattle.std.proofs.Common.{◌≡◌, ◌≢◌, ℕ, ◌+◌, ◌<◌, ◌≤◌, ◌==◌, true, false, List, [], ◌∷◌, map, refl, inl, inr, arith}
+use Rattle.std.proofs.Common.{◌≡◌, ◌≢◌, ℕ, zero, suc, ◌+◌, ◌<◌, ◌≤◌, ◌==◌, true, false, List, [], ◌∷◌, map, refl, inl, inr, arith}
+use Rattle.std.specs.Prelude.{nat_lt}
 use Rattle.std.specs.List.{AllByRecursion}
 use Rattle.std.specs.Str.{bytes_eq}
-use Rattle.std.proofs.lemmas.Bool.{or_cases, eqb-true, false≢true, leb-true}
+use Rattle.std.proofs.lemmas.Bool.{or_cases, eqb-true, false≢true, leb-true, ltb-true}
 use Rattle.std.proofs.lemmas.List.Elements.{All-from_recursion}
 use Rattle.imsm_base.specs.Parts.{block_in}
 use Rattle.imsm_base.specs.Whole.{AreApart}
@@ -14,11 +15,16 @@ use Rattle.new_container.specs.Example.{disk_of, mirror, mirror_disks}
 use Rattle.array_machine.specs.Numbers.{has}
 use Rattle.array_edits.specs.Examples.{five, ten, two_mirrors, three_disks, four_disks, serial_of_letter, all_work}
 use Rattle.array_edits.proofs.Disks.{serial_ne}
-use Rattle.array_openings.specs.Banks.{IsAtRest}
-use Rattle.array_openings.specs.NewBanks.{new_bank}
-use Rattle.array_openings.specs.Worked.{writes_and_reads, waits_for_a_spare, with_a_spare, of_two_sectors, of_two_volumes, loses_a_disk, without_a_disk, stops_dirty, with_a_pass}
+use Rattle.array_openings.specs.Banks.{Bank, setting_of_bank, IsAtRest}
+use Rattle.array_openings.specs.NewBanks.{CanBeMade, CanBeEdited}
+use Rattle.array_openings.specs.Opens.{opened_volumes}
+use Rattle.array_openings.specs.Sound.{OpensSound}
+use Rattle.array_openings.specs.Worked.{writes_and_reads, waits_for_a_spare, with_a_spare, of_two_sectors, of_two_volumes, before_it_failed, loses_a_disk, without_a_disk, before_it_stopped, stops_dirty, with_a_pass}
 use Rattle.array_openings.proofs.NewBanks.{new_rests}
 use Rattle.array_openings.proofs.EditedBanks.{edited_rests}
+use Rattle.array_openings.proofs.NewVolumes.{new_sound}
+use Rattle.array_openings.proofs.EditedVolumes.{edited_sound}
+use Rattle.array_openings.proofs.RowsHeld.{opens_sound}
 
 -- DISKS BY LETTERS
 
@@ -107,77 +113,145 @@ ten_can = record {
       (room_by (total_rows ten 4) four_letters (leb-true (total_rows ten 4 + 18) 4096 refl));
 }
 
--- AT REST
+-- THEY CAN BE MADE
 
-pub spare_rests : IsAtRest with_a_spare
-spare_rests = new_rests mirror mirror_disks (disk_of 0x43 ∷ []) (2 ∷ []) writes_and_reads (record {
+spare_made : CanBeMade mirror mirror_disks (disk_of 0x43 ∷ []) (2 ∷ [])
+spare_made = record {
   can = mirror_can;
   typed = All-from_recursion IsDisk mirror_disks (typed_by two_letters);
   others_typed = All-from_recursion IsDisk (disk_of 0x43 ∷ []) (typed_by one_letter);
   apart = apart_three;
   spares_there = third_spare;
-})
+}
 
-pub two_sectors_rest : IsAtRest of_two_sectors
-two_sectors_rest = new_rests five three_disks [] [] writes_and_reads (record {
+five_made : CanBeMade five three_disks [] []
+five_made = record {
   can = five_can;
   typed = All-from_recursion IsDisk three_disks (typed_by three_letters);
   others_typed = All-from_recursion IsDisk [] tt;
   apart = apart_three;
   spares_there = no_spares 3;
-})
+}
 
-pub two_volumes_rest : IsAtRest of_two_volumes
-two_volumes_rest = new_rests two_mirrors mirror_disks [] [] writes_and_reads (record {
+two_made : CanBeMade two_mirrors mirror_disks [] []
+two_made = record {
   can = two_can;
   typed = All-from_recursion IsDisk mirror_disks (typed_by two_letters);
   others_typed = All-from_recursion IsDisk [] tt;
   apart = apart_two;
   spares_there = no_spares 2;
-})
+}
 
-mirror_rests : IsAtRest (new_bank mirror mirror_disks (disk_of 0x43 ∷ []) [] waits_for_a_spare)
-mirror_rests = new_rests mirror mirror_disks (disk_of 0x43 ∷ []) [] waits_for_a_spare (record {
+mirror_made : CanBeMade mirror mirror_disks (disk_of 0x43 ∷ []) []
+mirror_made = record {
   can = mirror_can;
   typed = All-from_recursion IsDisk mirror_disks (typed_by two_letters);
   others_typed = All-from_recursion IsDisk (disk_of 0x43 ∷ []) (typed_by one_letter);
   apart = apart_three;
   spares_there = no_spares 3;
-})
+}
 
--- it expects the first disk, as it is computed
-degraded_expects : block_words.expects without_a_disk.block (serial_of_letter 0x41) ≡ true
-unfolding block_in created_bytes created_block created_family block_with
-degraded_expects = refl
-
-pub degraded_rests : IsAtRest without_a_disk
-degraded_rests =
-    edited_rests (new_bank mirror mirror_disks (disk_of 0x43 ∷ []) [] waits_for_a_spare) all_work loses_a_disk
-    mirror_rests (record {
-      apt = (tt, (omega arith, tt));
-      roomy = (tt, (tt, tt));
-      member = 0;
-      expected = degraded_expects;
-    })
-
-ten_rests : IsAtRest (new_bank ten four_disks [] [] writes_and_reads)
-ten_rests = new_rests ten four_disks [] [] writes_and_reads (record {
+ten_made : CanBeMade ten four_disks [] []
+ten_made = record {
   can = ten_can;
   typed = All-from_recursion IsDisk four_disks (typed_by four_letters);
   others_typed = All-from_recursion IsDisk [] tt;
   apart = apart_four;
   spares_there = no_spares 4;
-})
+}
+
+-- AND EDITED
+
+-- each expects the first disk, as it is computed
+degraded_expects : block_words.expects without_a_disk.block (serial_of_letter 0x41) ≡ true
+unfolding block_in created_bytes created_block created_family block_with
+degraded_expects = refl
+
+degraded_runs : block_words.can_run without_a_disk.block 0 ≡ true
+unfolding block_in created_bytes created_block created_family block_with
+degraded_runs = refl
 
 unfinished_expects : block_words.expects with_a_pass.block (serial_of_letter 0x41) ≡ true
 unfolding block_in created_bytes created_block created_family block_with
 unfinished_expects = refl
 
+unfinished_runs : block_words.can_run with_a_pass.block 0 ≡ true
+unfolding block_in created_bytes created_block created_family block_with
+unfinished_runs = refl
+
+mirror_rests : IsAtRest before_it_failed
+mirror_rests = new_rests mirror mirror_disks (disk_of 0x43 ∷ []) [] waits_for_a_spare mirror_made
+
+ten_rests : IsAtRest before_it_stopped
+ten_rests = new_rests ten four_disks [] [] writes_and_reads ten_made
+
+degraded_edited : CanBeEdited before_it_failed all_work loses_a_disk
+degraded_edited = record {
+  apt = (tt, (omega arith, tt));
+  roomy = (tt, (tt, tt));
+  member = 0;
+  expected = degraded_expects;
+}
+
+unfinished_edited : CanBeEdited before_it_stopped all_work stops_dirty
+unfinished_edited = record {
+  apt = (refl, (omega arith, (refl, (omega arith, tt))));
+  roomy = (tt, (tt, (tt, (tt, tt))));
+  member = 0;
+  expected = unfinished_expects;
+}
+
+-- one volume alone is started
+only_first : (k : Bank) → (v : ℕ) → nat_lt v 1 ≡ true → block_words.can_run k.block 0 ≡ true
+    → block_words.can_run k.block v ≡ true
+only_first k zero started runs = runs
+only_first k (suc v) started runs = absurd (let below = ltb-true (suc v) 1 started in omega (arith, below))
+
+-- AT REST
+
+pub spare_rests : IsAtRest with_a_spare
+spare_rests = new_rests mirror mirror_disks (disk_of 0x43 ∷ []) (2 ∷ []) writes_and_reads spare_made
+
+pub two_sectors_rest : IsAtRest of_two_sectors
+two_sectors_rest = new_rests five three_disks [] [] writes_and_reads five_made
+
+pub two_volumes_rest : IsAtRest of_two_volumes
+two_volumes_rest = new_rests two_mirrors mirror_disks [] [] writes_and_reads two_made
+
+pub degraded_rests : IsAtRest without_a_disk
+degraded_rests = edited_rests before_it_failed all_work loses_a_disk mirror_rests degraded_edited
+
 pub unfinished_rests : IsAtRest with_a_pass
-unfinished_rests =
-    edited_rests (new_bank ten four_disks [] [] writes_and_reads) all_work stops_dirty ten_rests (record {
-      apt = (refl, (omega arith, (refl, (omega arith, tt))));
-      roomy = (tt, (tt, (tt, (tt, tt))));
-      member = 0;
-      expected = unfinished_expects;
-    })
+unfinished_rests = edited_rests before_it_stopped all_work stops_dirty ten_rests unfinished_edited
+
+-- THEIR VOLUMES
+
+abbrev Sound : Bank → Type 0
+Sound k = OpensSound (setting_of_bank k) (opened_volumes (setting_of_bank k))
+
+pub spare_sound : Sound with_a_spare
+spare_sound =
+    opens_sound with_a_spare spare_rests
+    (new_sound mirror mirror_disks (disk_of 0x43 ∷ []) (2 ∷ []) writes_and_reads spare_made)
+
+pub two_sectors_sound : Sound of_two_sectors
+two_sectors_sound =
+    opens_sound of_two_sectors two_sectors_rest (new_sound five three_disks [] [] writes_and_reads five_made)
+
+pub two_volumes_sound : Sound of_two_volumes
+two_volumes_sound =
+    opens_sound of_two_volumes two_volumes_rest (new_sound two_mirrors mirror_disks [] [] writes_and_reads two_made)
+
+pub degraded_sound : Sound without_a_disk
+degraded_sound =
+    opens_sound without_a_disk degraded_rests
+    (edited_sound before_it_failed all_work mirror_rests loses_a_disk degraded_edited
+    (new_sound mirror mirror_disks (disk_of 0x43 ∷ []) [] waits_for_a_spare mirror_made)
+    (λ v started. only_first without_a_disk v started degraded_runs))
+
+pub unfinished_sound : Sound with_a_pass
+unfinished_sound =
+    opens_sound with_a_pass unfinished_rests
+    (edited_sound before_it_stopped all_work ten_rests stops_dirty unfinished_edited
+    (new_sound ten four_disks [] [] writes_and_reads ten_made)
+    (λ v started. only_first with_a_pass v started unfinished_runs))

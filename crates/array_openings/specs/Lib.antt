@@ -4,3 +4,5 @@ pub mod Opens
 pub mod Banks
 pub mod NewBanks
 pub mod Worked
+pub mod Sound
+pub mod Refused

@@ -36,17 +36,22 @@ of_two_sectors = new_bank five three_disks [] [] writes_and_reads
 abbrev pub of_two_volumes : Bank
 of_two_volumes = new_bank two_mirrors mirror_disks [] [] writes_and_reads
 
--- disk B failed before, and the third disk is blank
+-- disk B fails, and the third disk is blank
+abbrev pub before_it_failed : Bank
+before_it_failed = new_bank mirror mirror_disks (disk_of 0x43 ∷ []) [] waits_for_a_spare
+
 abbrev pub loses_a_disk : List Edit
 loses_a_disk = FailsDisk (serial_of_letter 0x42) ∷ TakesGeneration 2 ∷ []
 
 abbrev pub without_a_disk : Bank
-without_a_disk =
-    edited_bank (new_bank mirror mirror_disks (disk_of 0x43 ∷ []) [] waits_for_a_spare) all_work loses_a_disk
+without_a_disk = edited_bank before_it_failed all_work loses_a_disk
 
 -- it stopped dirty, and was started since
 abbrev pub stops_dirty : List Edit
 stops_dirty = MakesDirty 0 ∷ TakesGeneration 2 ∷ StartsVolume 0 ∷ TakesGeneration 3 ∷ []
 
+abbrev pub before_it_stopped : Bank
+before_it_stopped = new_bank ten four_disks [] [] writes_and_reads
+
 abbrev pub with_a_pass : Bank
-with_a_pass = edited_bank (new_bank ten four_disks [] [] writes_and_reads) all_work stops_dirty
+with_a_pass = edited_bank before_it_stopped all_work stops_dirty

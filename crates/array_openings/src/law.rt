@@ -3,16 +3,20 @@ ghost use Rattle.array_base.specs.Premises.{IsSpareBlock, Premises};
 ghost use Rattle.array_edits.specs.Formed.{is_formed};
 ghost use Rattle.array_edits.specs.RealSettings.{IsReal};
 ghost use Rattle.array_machine.specs.Setting.{Facts, Edit, Setting};
+ghost use Rattle.array_machine.specs.Volumes.{Volume, volume_at};
 ghost use Rattle.array_model.specs.Blocks.{Laid};
 ghost use Rattle.array_model.specs.Script.{Asked};
 ghost use Rattle.array_openings.specs.Banks.{Bank, setting_of_bank, IsAtRest};
 ghost use Rattle.array_openings.specs.NewBanks.{new_bank, CanBeMade, edited_bank, CanBeEdited};
-ghost use Rattle.array_openings.specs.Opens.{FindsContainer, Opens};
+ghost use Rattle.array_openings.specs.Opens.{FindsContainer, opened_volumes, Opens};
 ghost use Rattle.array_openings.specs.RealDisks.{IsOverRealDisks};
+ghost use Rattle.array_openings.specs.Sound.{OpensSound, HasSoundVolumes};
 ghost use Rattle.array_openings.specs.Spares.{spare_block};
+ghost use Rattle.array_rest.specs.Seats.{OpensAble};
+ghost use Rattle.block_meaning.specs.Reading.{block_words};
 ghost use Rattle.new_container.specs.declared.container.NewContainer.{NewContainer};
 ghost use Rattle.new_container.specs.declared.disk.NewDisk.{NewDisk};
-ghost use Rattle.std.specs.Prelude.{◌≡◌, ◌<◌, ◌≤◌, ℕ, List};
+ghost use Rattle.std.specs.Prelude.{◌≡◌, ◌<◌, ◌≤◌, ℕ, true, List};
 ghost use Rattle.units.specs.declared.bounds.TheConstants.{METADATA_SECTORS};
 
 /// A setting over real disks meets what laws take as given, where the newest block is of the form that edits keep: the
@@ -48,4 +52,24 @@ pub fn new_and_edited_containers_rest()
         → CanBeMade made disks others spares → IsAtRest (new_bank made disks others spares asked) }
     ensures edited { (k : Bank) (f : Facts) (es : List Edit) → IsAtRest k → CanBeEdited k f es
         → IsAtRest (edited_bank k f es) }
+{}
+
+/// Where a bank at rest has volumes that lie apart and can run, and all disks that its block expects, a run over it
+/// begins with volumes that can run, and with rows that hold the content. Such volumes are as laws on runs that come to
+/// rest ask for them.
+pub fn sound_volumes_open()
+    ensures sound { (k : Bank) → IsAtRest k → HasSoundVolumes k
+        → OpensSound (setting_of_bank k) (opened_volumes (setting_of_bank k)) }
+    ensures able { (S : Setting) (volumes : List Volume) → OpensSound S volumes
+        → ((v : ℕ) → (volume_at volumes v).started ≡ true → S.start.is_started v ≡ true) → OpensAble S volumes }
+{}
+
+/// The volumes of a new container lie one behind the other and can run, and its disks are there; edits leave that so,
+/// as long as the volumes can run.
+pub fn new_and_edited_volumes_are_sound()
+    ensures made { (made : NewContainer) (disks others : List NewDisk) (spares : List ℕ) (asked : Asked)
+        → CanBeMade made disks others spares → HasSoundVolumes (new_bank made disks others spares asked) }
+    ensures edited { (k : Bank) (f : Facts) (es : List Edit) → IsAtRest k → CanBeEdited k f es → HasSoundVolumes k
+        → ((v : ℕ) → k.started v ≡ true → block_words.can_run (edited_bank k f es).block v ≡ true)
+        → HasSoundVolumes (edited_bank k f es) }
 {}

@@ -8,10 +8,10 @@ mod law;
 mod worked;
 
 pub use law::{
-    containers_at_rest_open, new_and_edited_containers_rest, real_containers_open,
-    real_disks_meet_the_premises, spare_blocks_are_whole,
+    containers_at_rest_open, new_and_edited_containers_rest, new_and_edited_volumes_are_sound,
+    real_containers_open, real_disks_meet_the_premises, sound_volumes_open, spare_blocks_are_whole,
 };
 pub use worked::{
     example_of_a_degraded_mirror, example_of_a_spare, example_of_an_extended_block,
-    example_of_an_unfinished_volume, example_of_two_volumes,
+    example_of_an_unfinished_volume, example_of_refused_settings, example_of_two_volumes,
 };

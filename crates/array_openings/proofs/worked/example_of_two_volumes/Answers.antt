@@ -3,11 +3,14 @@ use Rattle.imsm_base.specs.Parts.{block_in}
 use Rattle.new_container.specs.Created.{block_with, created_block, created_bytes, created_family}
 use Rattle.array_openings.specs.Worked.{of_two_volumes}
 use Rattle.array_openings.proofs.Rests.{rest_opens}
-use Rattle.array_openings.proofs.WorkedBanks.{two_volumes_rest}
+use Rattle.array_openings.proofs.WorkedBanks.{two_volumes_rest, two_volumes_sound}
 use Rattle.array_openings.proofs.worked.example_of_two_volumes.Goals as goal
 
 pub returns-clause-opens : goal.returns-clause-opens
 returns-clause-opens c = rest_opens of_two_volumes two_volumes_rest
+
+pub returns-clause-sound : goal.returns-clause-sound
+returns-clause-sound c = two_volumes_sound
 
 pub returns-clause-volumes : goal.returns-clause-volumes
 unfolding block_in created_bytes created_block created_family block_with
