@@ -111,7 +111,7 @@ edited_stay b r started i k v after is settles =
     (λ e. stays_itself v is)
 
 -- of a supported one
-edited_served : (b : Block) (started : Bool) (k : ℕ) (v after less : Volume) → volume_fault b k v ≡ None →
+pub edited_served : (b : Block) (started : Bool) (k : ℕ) (v after less : Volume) → volume_fault b k v ≡ None →
     (if is_none (volume_fault b k v) then (if started then after else less) else v) ≡ (if started then after else less)
 edited_served b started k v after less none =
     ap (λ (o : Option Fault). if is_none o then (if started then after else less) else v) none
@@ -123,10 +123,10 @@ settles_started b false v x is t = settles_itself b v is
 
 -- A DISK THAT FAILS
 
-abbrev failed_by : Start → Facts → Block → ℕ → ℕ → Volume → Volume
+abbrev pub failed_by : Start → Facts → Block → ℕ → ℕ → Volume → Volume
 failed_by start f b i k v = if is_none (volume_fault b k v) then volume_failed (record_failed b i) i (facts_in start f b) k v else v
 
-failed_spreads : (start : Start) (f : Facts) (b : Block) (serial : List ℕ) (i : ℕ) → IsSound start b → IsRecord serial b i → Spreads b (marked_failed b i (facts_in start f b)) (failed_by start f b i)
+pub failed_spreads : (start : Start) (f : Facts) (b : Block) (serial : List ℕ) (i : ℕ) → IsSound start b → IsRecord serial b i → Spreads b (marked_failed b i (facts_in start f b)) (failed_by start f b i)
 failed_spreads start f b serial i s r = record {
   header = refl;
   gap = refl;

@@ -176,7 +176,7 @@ all_lowered : (i : ℕ) (vs : List Volume) → AllByRecursion IsVolume vs → Al
 all_lowered i [] all = tt
 all_lowered i (v ∷ vs) all = (lowered_steady i v all.0, all_lowered i vs all.1)
 
-removed_volume : (b : Block) (i k : ℕ) → k < length b.volumes → volume_at k (block_without_disk b i) ≡ volume_without_disk i (volume_at k b)
+pub removed_volume : (b : Block) (i k : ℕ) → k < length b.volumes → volume_at k (block_without_disk b i) ≡ volume_without_disk i (volume_at k b)
 removed_volume b i k below = get_or-map (volume_without_disk i) b.volumes k blank_volume blank_volume below
 
 removed_index : (start : Start) (b : Block) (i k s : ℕ) → IsSound start b → k < length b.volumes → s < slots_at b k → index_at (block_without_disk b i) k s ≡ low i (index_at b k s)
