@@ -18,8 +18,9 @@ use Rattle.array_machine.specs.Rounds.{Ended}
 use Rattle.array_machine.specs.Control.{Control}
 use Rattle.array_machine.specs.Changes.{Change, entry_of}
 use Rattle.array_machine.specs.Puts.{put}
-use Rattle.array_machine.specs.Machine.{World, Reached, begins_at, calls_after, log_after, entered}
+use Rattle.array_machine.specs.Machine.{Actor, World, Reached, begins_at, calls_after, log_after, entered}
 use Rattle.array_paths.specs.InTurn.{InTurn}
+use Rattle.array_paths.specs.Follows.{in_turn}
 use Rattle.array_paths.specs.Effects.{after_effect}
 use Rattle.array_base.specs.Premises.{Premises}
 use Rattle.array_base.specs.Opening.{slot_opened, Opening}
@@ -168,7 +169,8 @@ module _ (S : Setting) where
     pub law : EachCall (λ before x. ReadsInSync S.start w.log w.journal before x.disk x.what) w.log
 
   module _ (P : Premises S) where
-    keeps_effect : (t : InTurn) (w : World) (call : Option Call) (x : Ended) (a : Change) → OverBase S P t w call x a
+    pub keeps_effect : (t : InTurn) (w : World) (call : Option Call) (x : Ended) (a : Change)
+        → OverBase S P t w call x a
         → Keeps t w → Keeps t (after_effect S w call a)
     keeps_effect t w call x a o k = record {
       stamps = stamps_effect S w call a k.stamps;
@@ -221,25 +223,31 @@ module _ (S : Setting) where
       none_goes : GoesByBook S start
       none_goes m step left late done is = absurd (cc is)
 
-      pub keeps_run : (w : World) → Reached S volumes spares w → (t : InTurn) × Keeps t w
+      pub keeps_open : (who : Actor) → Keeps (in_turn start who) (begins_at S volumes spares)
+      keeps_open who = record {
+        stamps = stamps_open S volumes spares;
+        told = tells_open S volumes spares (λ v. (opening.volumes_are v).state);
+        slots = in_turn_now start slots_open none_goes _ refl;
+        goes = none_goes;
+        short = tt;
+        law = tt;
+      }
+
+      pub keeps_begin : (t : InTurn) (w : World) (who : Actor) → Keeps t w → Keeps (in_turn w.control who) w
+      keeps_begin t w who k = record {
+        stamps = k.stamps;
+        told = k.told;
+        slots = in_turn_now w.control k.slots.now k.goes _ refl;
+        goes = k.goes;
+        short = k.short;
+        law = k.law;
+      }
+
+      keeps_run : (w : World) → Reached S volumes spares w → (t : InTurn) × Keeps t w
       keeps_run =
           along_base S P volumes spares opening Keeps (record {
-            opens = λ who. record {
-              stamps = stamps_open S volumes spares;
-              told = tells_open S volumes spares (λ v. (opening.volumes_are v).state);
-              slots = in_turn_now start slots_open none_goes _ refl;
-              goes = none_goes;
-              short = tt;
-              law = tt;
-            };
-            begins = λ t w who k. record {
-              stamps = k.stamps;
-              told = k.told;
-              slots = in_turn_now w.control k.slots.now k.goes _ refl;
-              goes = k.goes;
-              short = k.short;
-              law = k.law;
-            };
+            opens = keeps_open;
+            begins = keeps_begin;
             step = keeps_effect;
           })
 

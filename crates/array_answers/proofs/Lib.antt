@@ -8,3 +8,4 @@ pub mod InSync
 pub mod OpenJobs
 pub mod WholeNow
 pub mod WholeRuns
+pub mod Broken

@@ -1,3 +1,4 @@
 pub mod Slots
 pub mod Takeovers
 pub mod Whole
+pub mod Failed

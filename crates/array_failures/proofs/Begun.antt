@@ -222,6 +222,12 @@ module _ (S : Setting) where
               (subst (λ l. IsFinished S.start l front last) (take_before w.log call stamp b.inside) finished);
         }
 
+    pub old_block : (front : List Entry) (stamp g : ℕ)
+        (b : HasBegun S (disks_by S w.log) w.control w.log front stamp g) (inside : stamp ≤ length log)
+        → (old_begun front stamp g b inside).block ≡ b.block
+    unfolding old_begun
+    old_block front stamp g b inside = refl
+
     module _ (stamps : Stamps w) (behind : Stamps (after_effect S w call a)) where
       abbrev n : ℕ
       n = calls_after w.calls call
@@ -249,6 +255,11 @@ module _ (S : Setting) where
                 subst (λ z. KeepsMembers S.start w.journal z m) (sym is)
                 (keeps_members S w.control w.journal m told leads);
           }
+
+      pub new_block : (m : Laid) (next : IsNext S t w.control m) (told : Tells S w.control w.journal)
+          (leads : LeadsTo S w.control.round.faults w.control.round.last m) → (new_begun m next told leads).block ≡ m
+      unfolding new_begun
+      new_block m next told leads = refl
 
       other_entry : BeginsNone a → (e : Event) → entry_of S a ≡ Some e
           → HasBegunAt S (disks_by S log) new log w.journal n e
