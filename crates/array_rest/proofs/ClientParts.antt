@@ -13,7 +13,7 @@ use Rattle.array_machine.specs.Clients.{Row, no_row, Job, NoJob, Submitted, Busy
 use Rattle.array_machine.specs.Rounds.{Ended}
 use Rattle.array_machine.specs.Control.{Control}
 use Rattle.array_machine.specs.Changes.{IsSilent, Submits, Acknowledges, DiskFails, StateGoes, ClientMoves, ClientWord}
-use Rattle.array_machine.specs.States.{StateWord, ToReady, ToActive, ToIdle, ToClean, is_readonly, state_after}
+use Rattle.array_machine.specs.States.{StateWord, ToReady, ToActive, ToIdle, ToClean, state_after}
 use Rattle.array_machine.specs.Faults.{job_without, clients_without}
 use Rattle.array_machine.specs.Locks.{holds, locked_from, pass_holds, is_locked}
 use Rattle.array_machine.specs.Puts.{set_state, put}
@@ -27,7 +27,7 @@ use Rattle.array_paths.specs.ClientMove.{NamesSector, fits_kind, fits_op}
 use Rattle.array_paths.proofs.ClientPaths.{job_kept}
 use Rattle.array_base.proofs.Slots.{volume_set}
 use Rattle.array_rest.specs.Between.{Kept, TurnEnds, TurnIsOver}
-use Rattle.array_rest.specs.Jobs.{JobGoes, PlanStands}
+use Rattle.array_rest.specs.Jobs.{JobGoes}
 use Rattle.array_rest.proofs.JobRows.{tried_stands, went_stands, lost_stands}
 use Rattle.array_rest.proofs.Parts.{client_set}
 use Rattle.array_rest.proofs.Failures.{holds_lost, fault_pass_holds}

@@ -1,5 +1,5 @@
 -- Behind the end of a round each slot that could be used is as it was.
-use Rattle.std.proofs.Common.{◌≡◌, ℕ, zero, suc, ◌||◌, ◌&&◌, not, Bool, true, false, List, [], ◌∷◌, refl, ap, sym, ◌∙◌, subst, Option, Some, ◌⊎◌, inl, inr}
+use Rattle.std.proofs.Common.{◌≡◌, ℕ, zero, suc, ◌||◌, not, true, false, List, [], ◌∷◌, refl, ap, sym, ◌∙◌, subst, Some, ◌⊎◌, inl, inr}
 use Rattle.std.specs.Prelude.{slice_get}
 use Rattle.std.specs.Option.{option_map_or}
 use Rattle.array_model.specs.Blocks.{Laid, SlotWords}
@@ -7,7 +7,7 @@ use Rattle.array_machine.specs.Setting.{Setting}
 use Rattle.array_machine.specs.Numbers.{has}
 use Rattle.array_machine.specs.Volumes.{Slot, slot_at, disk_in, member_of, is_usable, Volume}
 use Rattle.array_machine.specs.Clients.{Row}
-use Rattle.array_machine.specs.RoundEnds.{seat_of, is_other, seated_if, seated, synced_slot, all_in_sync, PassRun}
+use Rattle.array_machine.specs.RoundEnds.{seat_of, is_other, seated_if, seated, all_in_sync, PassRun}
 use Rattle.array_machine.specs.ClientTurns.{is_shut}
 use Rattle.array_base.specs.Premises.{Premises}
 use Rattle.array_rest.specs.Seats.{HasSeat}

@@ -1,17 +1,14 @@
 -- In each world of each run each job that goes on is on a volume that takes operations, and what it has still to read can
 -- be read.
-use Rattle.std.proofs.Common.{◌≡◌, ℕ, ◌+◌, true, false, List, [], ◌∷◌, refl, ap, sym, ◌∙◌, subst, Option, Some, None, ◌⊎◌, inl, inr}
+use Rattle.std.proofs.Common.{ℕ, List, [], ◌∷◌, Option, Some, None}
 use Rattle.device_log.specs.Log.{Call}
-use Rattle.array_model.specs.Renewal.{FitsGeneration}
 use Rattle.array_machine.specs.Setting.{Setting}
 use Rattle.array_machine.specs.Volumes.{Volume}
-use Rattle.array_machine.specs.Clients.{Row, NoJob, Busy}
 use Rattle.array_machine.specs.Rounds.{Ended}
 use Rattle.array_machine.specs.Control.{Control}
 use Rattle.array_machine.specs.Changes.{Change, RoundEnds}
 use Rattle.array_machine.specs.Puts.{put, puts}
-use Rattle.array_machine.specs.RoundEnds.{all_runs}
-use Rattle.array_machine.specs.Machine.{World, begins_at, Reached, opens, goes}
+use Rattle.array_machine.specs.Machine.{World, Reached, opens, goes}
 use Rattle.array_paths.specs.InTurn.{InTurn}
 use Rattle.array_paths.specs.Effects.{Path, ends_here, goes_on}
 use Rattle.array_paths.specs.Follows.{in_turn}
@@ -24,10 +21,9 @@ use Rattle.array_base.proofs.Runs.{each_world_has}
 use Rattle.array_rest.specs.Jobs.{JobsStand}
 use Rattle.array_rest.specs.Seats.{OpensAble}
 use Rattle.array_rest.proofs.JobSteps.{jobs_change, jobs_end}
-use Rattle.array_rest.proofs.RoundEnd.{runs}
-use Rattle.array_rest.proofs.SeatRuns.{phase_of, seated_end, each_seated}
+use Rattle.array_rest.proofs.SeatRuns.{phase_of, each_seated}
 use Rattle.array_rest.proofs.SeatSteps.{comes_or_called, Seated, seated_change}
-use Rattle.array_rest.proofs.Turns.{Turns, over, next, round_ends}
+use Rattle.array_rest.proofs.Turns.{Turns, next, round_ends}
 use Rattle.array_rest.proofs.Reach.{turn_made, idle_at_first, each_leaves}
 
 module _ (S : Setting) (P : Premises S) (A : Type 0) where

@@ -1,10 +1,9 @@
 -- Each change keeps what holds of the jobs of clients.
-use Rattle.std.proofs.Common.{◌≡◌, ℕ, ◌+◌, ◌==◌, ◌||◌, ◌&&◌, not, Bool, true, false, List, [], ◌∷◌, refl, ap, sym, ◌∙◌, subst, arith, slice_set, Option, Some, None, ◌⊎◌, inl, inr, cond}
+use Rattle.std.proofs.Common.{◌≡◌, ℕ, ◌+◌, ◌||◌, ◌&&◌, not, Bool, true, false, List, [], ◌∷◌, refl, ap, sym, ◌∙◌, subst, arith, slice_set, Option, Some, None, ◌⊎◌, inl, inr, cond}
 use Rattle.array_model.specs.Blocks.{Laid}
 use Rattle.array_machine.specs.Setting.{Setting}
-use Rattle.array_machine.specs.Numbers.{has}
 use Rattle.array_machine.specs.States.{StateWord, ToReady, ToPending, ToActive, ToActiveAgain, ToIdle, ToClean, is_readonly, state_after}
-use Rattle.array_machine.specs.Volumes.{Slot, slot_at, disk_in, has_disk, is_usable, member_of, Pass, Volume, volume_at}
+use Rattle.array_machine.specs.Volumes.{Slot, slot_at, has_disk, is_usable, Volume, volume_at}
 use Rattle.array_machine.specs.Operations.{volume_of}
 use Rattle.array_machine.specs.Clients.{Row, Job, NoJob, Submitted, Busy, Client, client_at}
 use Rattle.array_machine.specs.Rounds.{Step, OfRound, Going}
@@ -21,8 +20,7 @@ use Rattle.array_paths.proofs.ClientPaths.{job_kept}
 use Rattle.array_base.specs.Premises.{Premises}
 use Rattle.array_base.proofs.Slots.{volume_set}
 use Rattle.array_rest.specs.Between.{IsFine, JobIsFine}
-use Rattle.array_rest.specs.Jobs.{may_use, sees, IsOutrun, PlanStands, JobGoes, JobStands, JobsStand}
-use Rattle.array_rest.specs.Seats.{HasSeat, BlocksSeat}
+use Rattle.array_rest.specs.Jobs.{may_use, IsOutrun, PlanStands, JobGoes, JobStands, JobsStand}
 use Rattle.array_rest.proofs.Failures.{lost_begun}
 use Rattle.array_rest.proofs.JobEnds.{same_used, end_used, end_shut}
 use Rattle.array_rest.proofs.JobRows.{lost_stands}

@@ -1,43 +1,36 @@
 -- Where a run rests, a job that holds its row, on a volume that isn't broken, was outrun: any other one has a call to
 -- make, or an answer.
-use Rattle.std.proofs.Common.{◌≡◌, ℕ, zero, suc, ◌+◌, ◌==◌, ◌||◌, ◌&&◌, not, nat_lt, Bool, true, false, List, [], ◌∷◌, filter, refl, ap, sym, ◌∙◌, subst, arith, Option, Some, None, ◌⊎◌, inl, inr, cond, eq-eqb}
-use Rattle.std.specs.List.{list_any}
+use Rattle.std.proofs.Common.{◌≡◌, ℕ, suc, ◌+◌, ◌==◌, ◌||◌, ◌&&◌, not, Bool, true, false, List, [], ◌∷◌, refl, ap, sym, ◌∙◌, subst, arith, Option, Some, None, ◌⊎◌, inl, inr, eq-eqb}
 use Rattle.std.specs.Option.{option_map_or}
-use Rattle.std.proofs.lemmas.Bool.{and_parts}
-use Rattle.device_log.specs.Log.{Call}
 use Rattle.array_model.specs.declared.script.OpKind.{OpKind}
 use Rattle.array_model.specs.declared.script.OpKind.TheVariants.{Write as OpWrite, Read as OpRead, Whole as OpWhole}
 use Rattle.array_model.specs.declared.journal.Answer.{Answer}
 use Rattle.array_model.specs.declared.journal.Answer.TheVariants.{Done}
 use Rattle.array_model.specs.Script.{kind_at}
-use Rattle.array_model.specs.Placement.{Placement}
 use Rattle.array_machine.specs.Setting.{Setting}
 use Rattle.array_machine.specs.Numbers.{has}
-use Rattle.array_machine.specs.States.{is_pending}
-use Rattle.array_machine.specs.Volumes.{Slot, slot_at, disk_in, Member, member_at, is_usable, member_of, Volume, volume_at, source_if, source_in}
+use Rattle.array_machine.specs.Volumes.{slot_at, disk_in, Member, member_at, member_of, Volume, volume_at, source_if, source_in}
 use Rattle.array_machine.specs.Operations.{volume_of, shape_of, place_at, the_place, is_write}
-use Rattle.array_machine.specs.Clients.{Row, Job, NoJob, Submitted, Busy, Client, client_at}
+use Rattle.array_machine.specs.Clients.{Row, Busy, Client, client_at}
 use Rattle.array_machine.specs.Rounds.{Ended}
 use Rattle.array_machine.specs.Control.{Control}
-use Rattle.array_machine.specs.Changes.{Change}
-use Rattle.array_machine.specs.Locks.{holds, locked_from, pass_holds, is_locked}
-use Rattle.array_machine.specs.RowJobs.{seen_as, pair_of, targets_in, any_blocked, planned, plan_or, unread, unwritten, unsynced, Need, NoNeed, Reads, Writes, Syncs, Answers, read_or, write_or, sync_or, answer_if, after_reads, need_by, got_slots}
-use Rattle.array_machine.specs.Turns.{Turn, may_call, call_if, calling}
+use Rattle.array_machine.specs.Locks.{holds, locked_from, is_locked}
+use Rattle.array_machine.specs.RowJobs.{seen_as, pair_of, targets_in, any_blocked, planned, plan_or, unread, unwritten, unsynced, Need, Reads, Writes, Syncs, read_or, write_or, sync_or, answer_if, after_reads, need_by, got_slots}
+use Rattle.array_machine.specs.Turns.{may_call, call_if, calling}
 use Rattle.array_machine.specs.ClientTurns.{the_volume, members_now, row_tried, is_held, need_unless, need_what, job_changes, on_disk, meet, busy_kind, busy_unless, client_by}
 use Rattle.array_machine.specs.Machine.{Actor, Client as ClientOf}
 use Rattle.array_paths.specs.InTurn.{job_of}
 use Rattle.array_paths.specs.ClientMove.{fits_kind, fits_op}
-use Rattle.array_base.proofs.Targets.{or_cases, or_neither, has_passes}
+use Rattle.array_base.proofs.Targets.{has_passes}
 use Rattle.array_rest.specs.Between.{LocksAreApart, Kept}
 use Rattle.array_rest.specs.Jobs.{may_use, sees, IsOutrun, PlanStands}
 use Rattle.array_rest.specs.Seats.{RunsOn, HasSlots}
 use Rattle.array_rest.specs.Rests.{IsStill, IsAtRest, NothingIsDue}
 use Rattle.array_rest.proofs.Failures.{filter_has}
-use Rattle.array_rest.proofs.Inside.{placed_inside}
 use Rattle.array_rest.proofs.JobRows.{inside}
 use Rattle.array_rest.proofs.Parts.{not_true}
 use Rattle.array_rest.proofs.Plans.{seen_member, planned_may}
-use Rattle.array_rest.proofs.Runnable.{UsableDisk, usable_disk}
+use Rattle.array_rest.proofs.Runnable.{usable_disk}
 
 -- LOCKS
 

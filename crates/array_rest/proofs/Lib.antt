@@ -29,3 +29,5 @@ pub mod JobsRest
 pub mod PassWork
 pub mod PassRest
 pub mod Stopped
+pub mod AllRest
+pub mod ClientsRest

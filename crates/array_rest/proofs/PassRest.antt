@@ -1,30 +1,29 @@
 -- Where a run rests, the pass of a volume that isn't broken is over, or a job holds its row.
-use Rattle.std.proofs.Common.{◌≡◌, ℕ, zero, suc, ◌+◌, ◌==◌, ◌||◌, ◌&&◌, not, nat_lt, Bool, true, false, List, [], ◌∷◌, map, refl, ap, sym, ◌∙◌, subst, arith, Option, Some, None, ◌⊎◌, inl, inr, cond, eqb-true, eq-eqb}
-use Rattle.std.specs.List.{AllByRecursion, list_any}
+use Rattle.std.proofs.Common.{◌≡◌, ℕ, suc, ◌+◌, ◌==◌, ◌||◌, ◌&&◌, not, nat_lt, Bool, true, false, List, [], ◌∷◌, refl, ap, sym, ◌∙◌, subst, Option, Some, None, inl, inr, cond, eqb-true, eq-eqb}
+use Rattle.std.specs.List.{list_any}
 use Rattle.std.specs.Option.{option_map_or}
 use Rattle.std.proofs.lemmas.Bool.{and_parts}
 use Rattle.units.specs.declared.bounds.TheConstants.{CLIENTS}
-use Rattle.device_log.specs.Log.{Call}
 use Rattle.array_machine.specs.Setting.{Setting}
 use Rattle.array_machine.specs.Numbers.{has}
-use Rattle.array_machine.specs.Volumes.{Slot, slot_at, disk_in, Member, member_at, is_usable, member_of, members_of, Pass, Volume, volume_at, source_if, source_in}
+use Rattle.array_machine.specs.Volumes.{Slot, slot_at, disk_in, Member, is_usable, members_of, Pass, Volume, volume_at, source_if, source_in}
 use Rattle.array_machine.specs.Operations.{volume_of, shape_of, the_place}
 use Rattle.array_machine.specs.Clients.{Row, Job, NoJob, Submitted, Busy, Client, client_at}
 use Rattle.array_machine.specs.Rounds.{Ended}
 use Rattle.array_machine.specs.Control.{Control}
 use Rattle.array_machine.specs.Locks.{holds, locked_from}
-use Rattle.array_machine.specs.RowJobs.{Need, NoNeed, Reads, Writes, Syncs, Answers, sync_or}
-use Rattle.array_machine.specs.SyncTurns.{Work, row_work, work_by, settled, need_sets, pass_need, pass_what, pass_changes, pass_on, pass_meets, is_free_row, pass_at, synced, all_written}
+use Rattle.array_machine.specs.RowJobs.{Need, NoNeed, Reads, Writes, Syncs, sync_or}
+use Rattle.array_machine.specs.SyncTurns.{Work, row_work, work_by, settled, need_sets, pass_need, pass_what, pass_changes, pass_on, pass_meets, is_free_row, pass_at, all_written}
 use Rattle.array_machine.specs.Changes.{PassMoves, GoesOnQuietly}
 use Rattle.array_machine.specs.Turns.{idle, quietly, may_call, call_if, calling}
 use Rattle.array_machine.specs.Machine.{Actor, Sync}
 use Rattle.array_paths.specs.InTurn.{job_of}
 use Rattle.array_base.proofs.Targets.{or_cases}
-use Rattle.array_rest.specs.Between.{CanCall, PassStands, Kept}
+use Rattle.array_rest.specs.Between.{PassStands, Kept}
 use Rattle.array_rest.specs.Rests.{IsStill, IsAtRest, NothingIsDue}
 use Rattle.array_rest.proofs.Parts.{member_is}
 use Rattle.array_rest.proofs.PassSteps.{work_is, settled_stands}
-use Rattle.array_rest.proofs.PassWork.{SettlesTo, is_over, is_syncing, in_row, settles, CanWork, row_can, Asks, reads_one, writes_one, asks, none_written}
+use Rattle.array_rest.proofs.PassWork.{SettlesTo, is_over, is_syncing, in_row, settles, row_can, Asks, reads_one, writes_one, asks, none_written}
 use Rattle.array_rest.proofs.Runnable.{usable_disk}
 
 module _ (S : Setting) where

@@ -1,6 +1,5 @@
 -- What a pass has to do: where it stands once all is done that takes no call, and what each set of slots in a row asks.
-use Rattle.std.proofs.Common.{◌≡◌, ◌≢◌, ℕ, zero, suc, ◌+◌, ◌-◌, ◌*◌, ◌/◌, ◌%◌, ◌<◌, ◌≤◌, ◌==◌, ◌||◌, ◌&&◌, not, nat_lt, min, Bool, true, false, List, [], ◌∷◌, ◌++◌, filter, refl, ap, sym, ◌∙◌, subst, arith, Option, Some, None, ◌⊎◌, inl, inr, cond, eqb-true, eq-eqb}
-use Rattle.std.specs.Prelude.{⊤}
+use Rattle.std.proofs.Common.{◌≡◌, ℕ, ◌+◌, ◌*◌, ◌/◌, ◌%◌, ◌<◌, ◌==◌, ◌||◌, ◌&&◌, not, nat_lt, min, Bool, true, false, List, [], ◌∷◌, filter, refl, ap, sym, ◌∙◌, subst, arith, Option, Some, None, ◌⊎◌, inl, inr, cond, eqb-true, eq-eqb}
 use Rattle.std.specs.List.{AllByRecursion, range_with_len}
 use Rattle.std.proofs.lemmas.Bool.{and_parts}
 use Rattle.std.proofs.lemmas.Nat.{mod-mul-add}
@@ -9,10 +8,9 @@ use Rattle.units.specs.declared.volume.Level.{Level}
 use Rattle.units.specs.declared.volume.Level.TheVariants.{One, Five, Ten}
 use Rattle.array_model.specs.Placement.{Shape}
 use Rattle.array_model.proofs.Journals.{all-append}
-use Rattle.array_machine.specs.Numbers.{has, without, is_empty}
+use Rattle.array_machine.specs.Numbers.{has, is_empty}
 use Rattle.array_machine.specs.Volumes.{Member, member_at, is_usable, Pass}
-use Rattle.array_machine.specs.Faults.{past_syncs}
-use Rattle.array_machine.specs.RowJobs.{others_of, usable_of, targets_in, first_only, got_slots, unread, Need, NoNeed, Reads, Writes, Syncs, Answers, read_or}
+use Rattle.array_machine.specs.RowJobs.{others_of, usable_of, targets_in, first_only, got_slots, unread, Need, Reads, Writes}
 use Rattle.array_machine.specs.SyncTurns.{Work, work_if, pair_work, parity_of, gone_of, rebuilt_of, parity_work, work_by, row_work, checkpoint_rows, is_checkpoint, next_checkpoint, moves_to, past_checkpoint, past_rows, settled, unwritten_of, need_set, need_sets, all_written}
 use Rattle.array_base.proofs.Targets.{or_cases, or_neither, or_first, or_second, has_passes, passes_has}
 use Rattle.array_rest.proofs.Failures.{filter_has}

@@ -1,17 +1,17 @@
 -- A volume that wasn't started stays read-only, and doesn't break.
-use Rattle.std.proofs.Common.{◌≡◌, ℕ, ◌++◌, Bool, true, false, List, [], ◌∷◌, refl, ap, sym, ◌∙◌, subst, slice_set, Option, Some, ◌⊎◌, inl, inr}
+use Rattle.std.proofs.Common.{◌≡◌, ℕ, ◌++◌, Bool, true, false, List, [], ◌∷◌, ap, sym, ◌∙◌, subst, slice_set, Option, Some, inl, inr}
 use Rattle.units.specs.declared.disk.Sector.{Sector}
 use Rattle.device_log.specs.Log.{Call, What}
 use Rattle.array_machine.specs.Setting.{Setting}
-use Rattle.array_machine.specs.States.{State, IsReadonly, StateWord, ToReady, ToPending, ToActive, ToActiveAgain, ToIdle, ToClean, state_after}
+use Rattle.array_machine.specs.States.{IsReadonly, StateWord, ToReady, ToPending, ToActive, ToActiveAgain, ToIdle, ToClean, state_after}
 use Rattle.array_machine.specs.Volumes.{Slot, Pass, Volume, volume_at}
 use Rattle.array_machine.specs.Rounds.{Ended}
-use Rattle.array_machine.specs.Faults.{round_without, volume_lost}
+use Rattle.array_machine.specs.Faults.{round_without}
 use Rattle.array_machine.specs.Control.{Control}
 use Rattle.array_machine.specs.Changes.{Change, DiskFails, StateGoes, PassMoves, PassWord, GoesOnQuietly}
 use Rattle.array_machine.specs.Puts.{put}
 use Rattle.array_machine.specs.TakeoverTurns.{has_all}
-use Rattle.array_machine.specs.Machine.{World, begins_at, Reached}
+use Rattle.array_machine.specs.Machine.{World, Reached}
 use Rattle.array_paths.specs.InTurn.{InTurn}
 use Rattle.array_paths.specs.Comes.{Comes, begins, begins_spare, ends, ends_spare, lapses, fails, unblocks, readies, pends, activates, again, idles, cleans, client, pass, manages, kills, takes_over, resumes, dies}
 use Rattle.array_paths.specs.PassMove.{slots_of, pass_after}
