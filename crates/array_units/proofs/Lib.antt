@@ -1,0 +1,15 @@
+pub mod Passes
+pub mod Edits
+pub mod Begins
+pub mod Along
+pub mod Life
+pub mod Journal
+pub mod Stand
+pub mod Seated
+pub mod Calls
+pub mod Rests
+pub mod Kept
+pub mod Due
+pub mod Since
+pub mod Rounds
+pub mod Runs
