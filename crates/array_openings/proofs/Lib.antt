@@ -17,3 +17,6 @@ pub mod EditedVolumes
 pub mod NewVolumes
 pub mod RefusedSettings
 pub mod Able
+pub mod VolumeUnits
+pub mod RealUnits
+pub mod RowLaws

@@ -7,7 +7,7 @@ use Rattle.units.specs.declared.bounds.TheConstants.{METADATA_SECTORS}
 use Rattle.units.specs.Levels.{rows_of}
 use Rattle.imsm_base.specs.Layout.{Volume}
 use Rattle.array_model.specs.Blocks.{Laid, is_container}
-use Rattle.array_model.specs.Placement.{Shape}
+use Rattle.array_model.specs.Placement.{Shape, Placement, placement_of}
 use Rattle.array_model.specs.Script.{kind_at}
 use Rattle.block_meaning.specs.Meaning.{shape_of, no_shape}
 use Rattle.block_meaning.specs.Reading.{parts_of}
@@ -48,10 +48,14 @@ module _ (S : Setting) (o : IsOverRealDisks S) where
       subst (λ (s : Shape). s.rows ≡ rows_of s.level s.members s.size s.strip)
       (sym ((says S S.start.newest o.real o.newest).shape v)) (rows_by (slice_get (parts_of S.start.newest).volumes v))
 
+  -- so a placement lies below them
+  pub placed_inside : (v sector : ℕ) (place : Placement)
+      → placement_of (S.start.words.shape S.start.newest v) sector ≡ Some place
+      → place.row < (S.start.words.shape S.start.newest v).rows
+  placed_inside v sector place is = rows_hold (S.start.words.shape S.start.newest v) sector place (rows_are v) is
+
   rows_inside : RowsInside S
-  rows_inside i place is =
-      rows_hold (S.start.words.shape S.start.newest (volume_of S i)) (sector_in (kind_at S.asked.ops i)) place
-      (rows_are (volume_of S i)) is
+  rows_inside i place is = placed_inside (volume_of S i) (sector_in (kind_at S.asked.ops i)) place is
 
   -- WHICH DISKS
 

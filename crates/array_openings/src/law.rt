@@ -13,6 +13,8 @@ ghost use Rattle.array_openings.specs.RealDisks.{IsOverRealDisks};
 ghost use Rattle.array_openings.specs.Sound.{OpensSound, HasSoundVolumes};
 ghost use Rattle.array_openings.specs.Spares.{spare_block};
 ghost use Rattle.array_rest.specs.Seats.{OpensAble};
+ghost use Rattle.array_units.specs.EditUnits.{EditsKeepUnits, RowsLieApart};
+ghost use Rattle.array_values.specs.Values.{RowsOpen};
 ghost use Rattle.block_meaning.specs.Reading.{block_words};
 ghost use Rattle.new_container.specs.declared.container.NewContainer.{NewContainer};
 ghost use Rattle.new_container.specs.declared.disk.NewDisk.{NewDisk};
@@ -72,4 +74,17 @@ pub fn new_and_edited_volumes_are_sound()
     ensures edited { (k : Bank) (f : Facts) (es : List Edit) → IsAtRest k → CanBeEdited k f es → HasSoundVolumes k
         → ((v : ℕ) → k.started v ≡ true → block_words.can_run (edited_bank k f es).block v ≡ true)
         → HasSoundVolumes (edited_bank k f es) }
+{}
+
+/// Edits of real blocks leave an open pass open with its unit, but for those that open it anew; a unit that is recorded
+/// is the one asked for, where it lies in the volume's rows.
+pub fn real_edits_keep_units()
+    ensures { (S : Setting) → IsReal S → EditsKeepUnits S (is_formed S.start) }
+{}
+
+/// Sound volumes are also as laws on checkpoints and on what reads give ask for them.
+pub fn sound_volumes_meet_laws_on_rows()
+    ensures apart { (S : Setting) (volumes : List Volume) → OpensSound S volumes → RowsLieApart S }
+    ensures rows { (k : Bank) → IsAtRest k → HasSoundVolumes k
+        → RowsOpen (setting_of_bank k) (opened_volumes (setting_of_bank k)) }
 {}
