@@ -1,0 +1,4 @@
+mod Unread
+mod Needs
+mod Sums
+mod Losses
