@@ -130,3 +130,8 @@ module _ (S : Setting) where
 
     pub updates_in_order : (w : World) → Reached S volumes spares w → UpdatesInOrder w.journal
     updates_in_order w run = (along_base S P volumes spares o (λ t w. Ordered w) follows w run).1.updates.law
+
+    -- what a client has left are operations of its own
+    pub each_client_has_its_own : (w : World) → Reached S volumes spares w → (k : ℕ)
+        → AllByRecursion (IsOwn S k) (client_at w.control.clients k).left
+    each_client_has_its_own w run = (along_base S P volumes spares o (λ t w. Ordered w) follows w run).1.clients.own
