@@ -9,7 +9,7 @@ ghost use Rattle.array_base.specs.Laws.{OfEachWorld};
 ghost use Rattle.array_machine.specs.Rounds.{Ended};
 ghost use Rattle.array_machine.specs.Machine.{Actor};
 ghost use Rattle.array_rest.specs.Between.{AsksAreQueued, LocksAreApart, PassesAreStarted, PassesStand, SlotsAreSeated, TurnIsOver};
-ghost use Rattle.array_rest.specs.Rests.{IsAtRest, NothingIsDue, SomeIsTrusted, IsSound};
+ghost use Rattle.array_rest.specs.Rests.{ClientRests, IsAtRest, NothingIsDue, SomeIsTrusted, IsSound, VolumeRests};
 ghost use Rattle.array_rest.specs.Seats.{BlocksSeat, OfEachAbleWorld, VolumesRun};
 
 /// In every run, wherever a turn ends, no row has two holders: neither two clients, nor a client and the volume's pass.
@@ -57,4 +57,16 @@ pub fn blocks_in_hand_seat_each_disk()
 pub fn sound_volumes_can_run()
     ensures runs { OfEachAbleWorld (λ S P w. VolumesRun S w.control.round w.control.volumes) }
     ensures trusted { OfEachAbleWorld (λ S P w. (v : ℕ) → IsSound w.control v → SomeIsTrusted S w.control.round) }
+{}
+
+/// In every run that rests, and whose volumes could run when they were started: each volume that isn't broken is
+/// read-auto or clean, the last finished round says that it is clean, and a pass of it is over and closed there; and
+/// each client has had all its operations answered, or its next one names a volume that wasn't started, or it waits for
+/// a volume to be whole that isn't. Or a job was outrun: a slot of its volume was given another disk since its first
+/// call, and that disk came in sync.
+pub fn volumes_and_clients_rest()
+    ensures volumes { OfEachAbleWorld (λ S P w. (ends : Actor → Ended) → IsAtRest S w.control ends
+        → (v : ℕ) → IsSound w.control v → VolumeRests S w.control v) }
+    ensures clients { OfEachAbleWorld (λ S P w. (ends : Actor → Ended) → IsAtRest S w.control ends
+        → (k : ℕ) → ClientRests S w.control k) }
 {}
