@@ -17,3 +17,4 @@ pub mod PassMoves
 pub mod PassLoses
 pub mod PassNeeds
 pub mod PassCalls
+pub mod PassWrites

@@ -41,7 +41,7 @@ module _ (S : Setting) (inside : RowsInside S) (apart : AreApart S) (c : Control
   abbrev ms : List Member
   ms = members_at c v
 
-  content : (i : ℕ) → (content_at S now i ≡ content_at S journal i) × (is_unsure_at S now i ≡ is_unsure_at S journal i)
+  pub content : (i : ℕ) → (content_at S now i ≡ content_at S journal i) × (is_unsure_at S now i ≡ is_unsure_at S journal i)
   content i = (
     content_stays S journal n None tt (volume_of S i) (sector_at S i),
     unsure_stays S journal n None tt (volume_of S i) (sector_at S i),
@@ -52,26 +52,26 @@ module _ (S : Setting) (inside : RowsInside S) (apart : AreApart S) (c : Control
       (sym goes.settles) (settled_goes (shape_of S v) ms goes.had)
 
   -- the pass, settled, fits
-  fits : NewPass S (slots_of c v) c.round.faults log journal v p
+  pub fits : NewPass S (slots_of c v) c.round.faults log journal v p
   fits = settled_pass S c log journal rows v ms goes.had p go
       (had_pass S c log journal rows v goes.had (rows.passes v goes.had goes.sound goes.is))
 
-  counts : (q : Pass) → q.row ≡ p.row → (i s d : ℕ) → IsToCount S c v (slots_of c v) (Some q) i s d → Counts S c i s d
+  pub counts : (q : Pass) → q.row ≡ p.row → (i s d : ℕ) → IsToCount S c v (slots_of c v) (Some q) i s d → Counts S c i s d
   counts q same = settled_counts S c log journal rows v inside g ms (sees_now S c log journal rows v) goes.had goes.had p q goes.is refl go same
 
-  tells_on : (later : List Call) (i d : ℕ) → stood S later i d ≡ stood S log i d → Tells S log journal i d
+  pub tells_on : (later : List Call) (i d : ℕ) → stood S later i d ≡ stood S log i d → Tells S log journal i d
       → Tells S later now i d
   tells_on later i d cell old h = cell ∙ old (sym (content i).1 ∙ h) ∙ sym (content i).0
 
   -- in a row that is free each slot that counts holds the content
-  told : (i s d : ℕ) → volume_of S i ≡ v → IsCopied S i → IsFreeRow S c v (row_at S i) → Counts S c i s d
+  pub told : (i s d : ℕ) → volume_of S i ≡ v → IsCopied S i → IsFreeRow S c v (row_at S i) → Counts S c i s d
       → Tells S log journal i d
   told i s d volume copied free counts = elim (rows.holds i s d copied counts) [
     | inl tells ↦ tells
     | inr w ↦ absurd (free w.client w.op w.row w.has w.begun (w.volume ∙ volume) (row_of_one S w.op i (w.volume, w.sector)))
   ]
 
-  place_is : (i : ℕ) → volume_of S i ≡ v → row_at S i ≡ p.row → place_on S i ≡ row_place S v p.row
+  pub place_is : (i : ℕ) → volume_of S i ≡ v → row_at S i ≡ p.row → place_on S i ≡ row_place S v p.row
   place_is i volume row =
       ap (λ w. (shape_of S w).pba + row_at S i) volume ∙ ap (λ r. (shape_of S v).pba + r) row
 
