@@ -3,3 +3,4 @@ pub mod Between
 pub mod Round
 pub mod Seats
 pub mod Jobs
+pub mod Small

@@ -4,6 +4,8 @@
 //! Here turns are looked at, since a run rests where none of them does anything.
 #![tactic(auto)]
 
+mod examples;
+
 ghost use Rattle.std.specs.Prelude.{ℕ};
 ghost use Rattle.array_base.specs.Laws.{OfEachWorld};
 ghost use Rattle.array_machine.specs.Rounds.{Ended};
@@ -11,6 +13,8 @@ ghost use Rattle.array_machine.specs.Machine.{Actor};
 ghost use Rattle.array_rest.specs.Between.{AsksAreQueued, LocksAreApart, PassesAreStarted, PassesStand, SlotsAreSeated, TurnIsOver};
 ghost use Rattle.array_rest.specs.Rests.{ClientRests, IsAtRest, NothingIsDue, SomeIsTrusted, IsSound, VolumeRests};
 ghost use Rattle.array_rest.specs.Seats.{BlocksSeat, OfEachAbleWorld, VolumesRun};
+
+pub use examples::example_of_rest;
 
 /// In every run, wherever a turn ends, no row has two holders: neither two clients, nor a client and the volume's pass.
 pub fn rows_have_one_holder()
