@@ -10,7 +10,7 @@
 ghost use Rattle.std.specs.Prelude.{take};
 ghost use Rattle.array_base.specs.Laws.{OfEachWorld};
 ghost use Rattle.array_model.specs.Events.{AtEach};
-ghost use Rattle.array_model.specs.FailureLaw.{AckOverFaults, BeginCounts, BeginKeeps, FailureLaw, TellsEachFailure};
+ghost use Rattle.array_model.specs.FailureLaw.{AckOverFaults, BeginKeeps, TellsEachFailure};
 
 /// Where a write is acknowledged as done, each disk that it was meant for and that has a fault by then is called failed
 /// by each block that a stop may leave on a working member: whichever finished round meant the write for it.
@@ -31,11 +31,4 @@ pub fn no_failed_call_is_hidden()
 pub fn rounds_keep_healthy_members()
     ensures { OfEachWorld (λ S P w.
         AtEach (λ front e. BeginKeeps S.start w.log front e.stamp e.event) w.journal) }
-{}
-
-/// So each run meets the failure law whose checkpoints don't stay behind their passes.
-pub fn failure_law_given_its_checkpoints()
-    ensures { OfEachWorld (λ S P w.
-        AtEach (λ front e. BeginCounts S.start S.asked.ops w.log front e.stamp e.event) w.journal
-        → FailureLaw S.start S.asked.ops w.log w.journal) }
 {}
